@@ -1,0 +1,6 @@
+pub mod Fits
+pub mod Sums
+pub mod Firsts
+pub mod Weighing
+pub mod Excluding
+pub mod Flaws

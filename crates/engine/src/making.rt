@@ -1,0 +1,52 @@
+// How rows, presets and weights are made: each number is held against its bound. Assumes nothing.
+ghost use mathlib.Core.Path.{_≡_};
+ghost use mathlib.Core.Bool.{true, false};
+ghost use Prim.Native.Nat.{_≤_, _<_};
+ghost use lib.IntN.{pos};
+ghost use lib.ListN.{replicate};
+ghost use Rattle.std.specs.Options.{Cases as BySome};
+ghost use Rattle.engine.specs.Limits.{largest, Within, EachWithin};
+use crate::bounds::all_within;
+use crate::bounds::within;
+use crate::bounds::FADERS;
+use crate::bounds::G;
+use crate::bounds::ROWS;
+use crate::kind::Kind;
+use crate::preset::Preset;
+use crate::row::Row;
+use crate::weights::Weights;
+
+impl Row {
+    // The row with these numbers; none where one is beyond G.
+    pub fn new(kind: Kind, coefficients: [i32; FADERS], side: i32) -> Option<Row>
+        ensures { λ r. ⌜ BySome r (EachWithin coefficients → Within side → ⊥) (λ row. (row .kind ≡ kind) × (row .coefficients ≡ coefficients) × (row .side ≡ side)) ⌝ }
+    {
+        if all_within(&coefficients) && within(side) {
+            Some(Row { kind, coefficients, side })
+        } else {
+            None
+        }
+    }
+}
+
+impl Preset {
+    // The preset with these numbers; none where one is beyond G or the denominator is 0.
+    pub fn new(numerators: [i32; FADERS], denominator: u32) -> Option<Preset>
+        ensures { λ r. ⌜ BySome r (EachWithin numerators → 0 < denominator → denominator ≤ largest → ⊥) (λ p. (p .numerators ≡ numerators) × (p .denominator ≡ denominator)) ⌝ }
+    {
+        if all_within(&numerators) && 0 < denominator && denominator <= G as u32 {
+            Some(Preset { numerators, denominator })
+        } else {
+            None
+        }
+    }
+}
+
+impl Weights {
+    // The weights with these values; none where one is beyond G.
+    pub fn new(values: [i32; ROWS]) -> Option<Weights>
+        ensures { λ r. ⌜ BySome r (EachWithin values → ⊥) (λ w. w .values ≡ values) ⌝ }
+    {
+        if all_within(&values) { Some(Weights { values }) } else { None }
+    }
+}

@@ -1,0 +1,10 @@
+pub mod Laws
+pub mod Order
+pub mod Ring
+pub mod Inequality
+pub mod Products
+pub mod Linear
+pub mod Bounds
+pub mod VectorLaws
+pub mod DivisorLaws
+pub mod FractionLaws

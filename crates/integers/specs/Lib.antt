@@ -1,0 +1,4 @@
+pub mod Divisors
+pub mod Fractions
+pub mod Choice
+pub mod Vectors
