@@ -4,3 +4,5 @@ pub mod Firsts
 pub mod Weighing
 pub mod Excluding
 pub mod Flaws
+pub mod Exactness
+pub mod StateRows

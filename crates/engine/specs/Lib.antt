@@ -4,3 +4,8 @@ pub mod Rows
 pub mod Presets
 pub mod Clashes
 pub mod Parts
+pub mod Verdicts
+pub mod Refusals
+pub mod Interface
+pub mod Exactness
+pub mod States

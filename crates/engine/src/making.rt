@@ -5,7 +5,9 @@ ghost use Prim.Native.Nat.{_≤_, _<_};
 ghost use lib.IntN.{pos};
 ghost use lib.ListN.{replicate};
 ghost use Rattle.std.specs.Options.{Cases as BySome};
-ghost use Rattle.engine.specs.Limits.{largest, Within, EachWithin};
+ghost use Rattle.engine.specs.Limits.{largest, faders, Within, EachWithin};
+ghost use Rattle.engine.specs.declared.kind.Kind.the-variants.{AtMost};
+ghost use Rattle.engine.specs.Rows.{constraint};
 use crate::bounds::all_within;
 use crate::bounds::within;
 use crate::bounds::FADERS;
@@ -25,6 +27,17 @@ impl Row {
             Some(Row { kind, coefficients, side })
         } else {
             None
+        }
+    }
+
+    // The row that says 0 <= 0.
+    pub fn zero() -> Row
+        ensures { λ r. ⌜ constraint r ≡ record { kind = AtMost; coefficients = replicate faders (pos 0); side = pos 0 } ⌝ }
+    {
+        Row {
+            kind: Kind::AtMost,
+            coefficients: [0; FADERS],
+            side: 0,
         }
     }
 }

@@ -1,0 +1,27 @@
+use mathlib.Core.Path.{_≡_, sym, subst, refl, _∙_, ap}
+use mathlib.Core.List.{List}
+use native.Mathlib.Omega.{arith}
+use lib.ListN.{length}
+use Prim.Native.Nat.{_<_}
+use Rattle.std.specs.declared.option.Option.{Option}
+use Rattle.engine.specs.declared.refusal.Refusal.{Refusal}
+use Rattle.engine.specs.Limits.{most-rows}
+use Rattle.engine.specs.Rows.{Constraint, constraint}
+use Rattle.engine.specs.Interface.{View, Answer, unused-refusal}
+use Rattle.engine.specs.States.{state-view, state-rows}
+use Rattle.engine.proofs.StateRows.{length-state-rows, constraints-more, take-refusal-last}
+use Rattle.engine.proofs.state.State.take.Needs as need
+
+pub returns-in-Some : need.returns-in-Some
+returns-in-Some c =
+    let s = c .args .self .now in
+    let n = length-state-rows s in
+    let e = take-refusal-last (constraint (c .args .row .now)) (state-view s) (omega arith) (omega arith) ∙ ap unused-refusal (sym (c .first-unused .ensures) ∙ c .in-Some .is) in
+    rw e (refl, refl)
+
+pub returns : need.returns
+returns c =
+    let s = c .args .self .now in
+    let n = length-state-rows s in
+    let e = take-refusal-last (constraint (c .args .row .now)) (state-view s) (omega arith) (omega arith) ∙ ap unused-refusal (sym (c .first-unused .ensures) ∙ c .in-rest .is) in
+    rw e (ap (λ (rs : List Constraint). record { count = s .count; rows = rs; answer = Answer.none }) (constraints-more (s .rows) (s .len) (c .args .row .now) (omega (arith, s .places))))
