@@ -6,3 +6,4 @@ pub mod Excluding
 pub mod Flaws
 pub mod Exactness
 pub mod StateRows
+pub mod Blends

@@ -9,3 +9,4 @@ pub mod Refusals
 pub mod Interface
 pub mod Exactness
 pub mod States
+pub mod Carrying

@@ -1,7 +1,9 @@
 // What rows, presets and clashes are, and checkers of both kinds of answer. It sees the crate `integers` and no engine.
 pub mod answer;
 pub mod bounds;
+pub mod carried;
 pub mod clashes;
+pub mod combining;
 pub mod fault;
 pub mod flaw;
 pub mod interface;
@@ -19,14 +21,17 @@ mod tests;
 pub mod weights;
 
 pub use answer::Answer;
+pub use bounds::narrow;
 pub use bounds::within;
 pub use bounds::FADERS;
 pub use bounds::G;
 pub use bounds::ROWS;
+pub use carried::Carried;
 pub use clashes::clash_flaw;
 pub use clashes::column;
 pub use clashes::is_clash;
 pub use clashes::total;
+pub use combining::combine;
 pub use fault::Fault;
 pub use flaw::ClashFlaw;
 pub use interface::Engine;

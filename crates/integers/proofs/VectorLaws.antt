@@ -56,3 +56,14 @@ dot-near m n [] ys p q = omega arith
 dot-near m n (x ∷ xs) [] p q = omega arith
 dot-near m n (x ∷ xs) (y ∷ ys) p q =
     omega (arith, add-near (x *ℤ y) (dot xs ys) (m * n) (length xs * (m * n)) (mul-near x y m n (p .0) (q .0)) (dot-near m n xs ys (p .1) (q .1)), native.Mathlib.Nat.suc-mul (length xs) (m * n))
+
+-- lists of one length
+pub length-scale : (w : ℤ) (xs : List ℤ) → length (scale w xs) ≡ length xs
+length-scale w [] = refl
+length-scale w (x ∷ xs) = ap suc (length-scale w xs)
+
+pub length-add : (xs ys : List ℤ) → length xs ≡ length ys → length (add xs ys) ≡ length xs
+length-add [] [] e = refl
+length-add [] (y ∷ ys) e = absurd (omega arith)
+length-add (x ∷ xs) [] e = absurd (omega arith)
+length-add (x ∷ xs) (y ∷ ys) e = ap suc (length-add xs ys (omega arith))

@@ -1,0 +1,10 @@
+pub mod Alls
+pub mod Unders
+pub mod Between
+pub mod Blending
+pub mod Placing
+pub mod Steps
+pub mod Setting
+pub mod Tracing
+pub mod Stages
+pub mod Soundness

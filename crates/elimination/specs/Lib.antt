@@ -1,0 +1,5 @@
+pub mod Table
+pub mod Levels
+pub mod Working
+pub mod Sound
+pub mod Lines
