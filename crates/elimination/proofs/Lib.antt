@@ -8,3 +8,4 @@ pub mod Setting
 pub mod Tracing
 pub mod Stages
 pub mod Soundness
+pub mod Appending

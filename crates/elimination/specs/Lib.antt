@@ -3,3 +3,4 @@ pub mod Levels
 pub mod Working
 pub mod Sound
 pub mod Lines
+pub mod Appends

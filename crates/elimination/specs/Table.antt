@@ -15,7 +15,7 @@ use Rattle.std.specs.declared.result.Result.the-variants.{Ok, Err}
 use Rattle.integers.specs.Vectors.{add, scale}
 use Rattle.integers.specs.Divisors.{gcd-of}
 use Rattle.engine.specs.declared.fault.Fault.{Fault}
-use Rattle.engine.specs.Limits.{largest}
+pub use Rattle.engine.specs.Limits.{near, all-near}
 use Rattle.engine.specs.Verdicts.{number-beyond, table-full}
 
 -- the rows that a table holds at the most
@@ -69,13 +69,6 @@ abbrev pub combined : ℕ → Line → Line → Line
 combined k u l = blend (size k l / gcd-of (size k u) (size k l)) (size k u / gcd-of (size k u) (size k l)) u l
 
 -- every number is within G
-abbrev pub near : ℤ → Bool
-near z = leb (natAbs z) largest
-
-abbrev pub all-near : List ℤ → Bool
-all-near [] = true
-all-near (z ∷ zs) = near z && all-near zs
-
 abbrev pub fits : Line → Bool
 fits r = all-near (r .coefficients) && (near (r .side) && all-near (r .weights))
 

@@ -36,12 +36,14 @@ abbrev pub first-equation : ℕ → List Constraint → Option ℕ
 first-equation i [] = None
 first-equation i (r ∷ rows) = cond (is-equation (r .kind)) (Some i) (first-equation (i + 1) rows)
 
--- each row of the list with weight 1 on itself, from place i on
+-- the row at place i of the list, with weight 1 on itself
+abbrev pub listed-line : ℕ → Constraint → Line
+listed-line i r = record { coefficients = r .coefficients; side = r .side; strict = is-strict (r .kind); weights = set (replicate most-rows (pos 0)) i (pos 1); aside = None }
+
+-- the rows of the list, from place i on
 abbrev pub carried : ℕ → List Constraint → List Line
 carried i [] = []
-carried i (r ∷ rows) =
-    record { coefficients = r .coefficients; side = r .side; strict = is-strict (r .kind); weights = set (replicate most-rows (pos 0)) i (pos 1); aside = None }
-    ∷ carried (i + 1) rows
+carried i (r ∷ rows) = listed-line i r ∷ carried (i + 1) rows
 
 -- a standing row that no levels meet: it has no coefficients left
 abbrev pub is-false : Line → Bool

@@ -1,12 +1,12 @@
 -- Numbers within G and their products fit the machine's types. Assumes nothing.
 use mathlib.Core.Path.{_≡_, sym, subst}
-use mathlib.Core.List.{List}
+use mathlib.Core.List.{List, [], _∷_}
 use mathlib.Core.Logic.{inl, inr}
-use Prim.Native.Nat.{ℕ, _+_, _*_, _^_, _≤_, _<_}
+use Prim.Native.Nat.{ℕ, zero, suc, _+_, _*_, _^_, _≤_, _<_}
 use native.Mathlib.Omega.{arith}
 use lib.IntN.{ℤ, pos, natAbs, _*ℤ_, _+ℤ_}
 use lib.Dec.{lit≤}
-use lib.ListN.{length, getD, take}
+use lib.ListN.{length, getD, take, set, replicate}
 use mir.Syntax.{w32, w64, w128}
 use mir.Val.{SFits}
 use Rattle.std.proofs.shelf.Signed.{ints}
@@ -43,3 +43,15 @@ within-take n zs w k = elim (cases-lt k n) [
   inl h ↦ subst Within (sym (getD-take n zs k (pos 0) h)) (w k)
   | inr h ↦ past-within (take n zs) k (omega (arith, length-take n zs))
 ]
+
+pub within-set : (zs : List ℤ) (i : ℕ) (v : ℤ) → EachWithin zs → Within v → EachWithin (set zs i v)
+within-set [] i v w h k = w k
+within-set (z ∷ zs) zero v w h zero = h
+within-set (z ∷ zs) zero v w h (suc k) = w (suc k)
+within-set (z ∷ zs) (suc i) v w h zero = w 0
+within-set (z ∷ zs) (suc i) v w h (suc k) = within-set zs i v (λ n. w (suc n)) h k
+
+pub zeros-within : (n : ℕ) → EachWithin (replicate n (pos 0))
+zeros-within zero k = zero-within
+zeros-within (suc n) zero = zero-within
+zeros-within (suc n) (suc k) = zeros-within n k

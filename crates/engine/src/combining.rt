@@ -1,11 +1,13 @@
 // Combining: two carried rows, each times its factor, added number by number, each number held against G. Assumes nothing.
 ghost use mathlib.Core.Path.{_≡_};
 ghost use mathlib.Core.Bool.{true, false};
-ghost use lib.IntN.{_+ℤ_, _*ℤ_};
-ghost use lib.ListN.{length};
+ghost use Prim.Native.Nat.{_/_, _<_};
+ghost use lib.IntN.{pos, natAbs, _+ℤ_, _*ℤ_};
+ghost use lib.ListN.{length, set, replicate};
 ghost use Rattle.std.specs.Options.{Cases as BySome};
+ghost use Rattle.integers.specs.Divisors.{gcd-of};
 ghost use Rattle.integers.specs.Vectors.{add, scale};
-ghost use Rattle.engine.specs.Limits.{Within, EachWithin, narrowed, all-near};
+ghost use Rattle.engine.specs.Limits.{most-rows, Within, EachWithin, narrowed, all-near};
 ghost use Rattle.engine.specs.Rows.{constraint};
 ghost use Rattle.engine.specs.Carrying.{numbers-of, listed, combination, fits};
 use crate::bounds::narrow;
@@ -13,7 +15,47 @@ use crate::bounds::FADERS;
 use crate::bounds::ROWS;
 use crate::carried::Carried;
 use crate::row::Row;
+use integers::gcd;
 use integers::product;
+
+// 1 at a place, and 0 elsewhere.
+fn unit(place: usize) -> [i32; ROWS]
+    ensures { λ r. ⌜ r ≡ set (replicate most-rows (pos 0)) place (pos 1) ⌝ }
+{
+    let mut weights = [0; ROWS];
+    if place < ROWS {
+        weights[place] = 1;
+    }
+    weights
+}
+
+impl Carried {
+    // The row at a place of the list, with weight 1 on itself.
+    pub fn listed(row: &Row, place: usize) -> Carried
+        ensures { λ r. ⌜ numbers-of r ≡ listed place (constraint (now (row .entry))) ⌝ }
+    {
+        let weights = unit(place);
+        let coefficients = row.coefficients;
+        Carried {
+            coefficients,
+            side: row.side,
+            weights,
+        }
+    }
+}
+
+// The sizes of two numbers, of which the first is not 0, each divided by their common divisor: the factors by which one cancels the other.
+pub fn parts(a: i32, b: i32) -> (i32, i32)
+    requires { ⌜ Within a ⌝ ∗ ⌜ Within b ⌝ ∗ ⌜ 0 < natAbs a ⌝ }
+    ensures first { λ r. ⌜ r .0 ≡ pos (natAbs a / gcd-of (natAbs a) (natAbs b)) ⌝ }
+    ensures second { λ r. ⌜ r .1 ≡ pos (natAbs b / gcd-of (natAbs a) (natAbs b)) ⌝ }
+    ensures within { λ r. ⌜ Within (r .0) × Within (r .1) ⌝ }
+{
+    let x = a.unsigned_abs();
+    let y = b.unsigned_abs();
+    let shared = gcd(x as u64, y as u64);
+    ((x as u64 / shared) as i32, (y as u64 / shared) as i32)
+}
 
 // m times a and n times b, added; none where that is beyond G.
 fn blended(m: i32, a: i32, n: i32, b: i32) -> Option<i32>

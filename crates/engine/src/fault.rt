@@ -1,7 +1,19 @@
 // Why an engine could not decide. Assumes nothing.
 
+// A number is beyond G.
+pub const NUMBER: u8 = 1;
+
+// The table is full.
+pub const TABLE: u8 = 2;
+
+// A row is of a form that the engine does not take.
+pub const FORM: u8 = 3;
+
+// A weight is beyond G.
+pub const WEIGHT: u8 = 4;
+
 // The layer that it arose in, counted upward from 0, its cause and the place it names.
-// Causes: 1 a number beyond G, 2 a full table, 3 a row of a form not taken, 4 a weight beyond G; engines of other makers use 5 to 255.
+// The causes above are those of our engines; engines of other makers use 5 to 255.
 #[derive(Clone, Copy, PartialEq, Eq, Debug)]
 pub struct Fault {
     pub layer: u8,

@@ -32,6 +32,7 @@ pub use clashes::column;
 pub use clashes::is_clash;
 pub use clashes::total;
 pub use combining::combine;
+pub use combining::parts;
 pub use fault::Fault;
 pub use flaw::ClashFlaw;
 pub use interface::Engine;

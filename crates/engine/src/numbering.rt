@@ -1,7 +1,17 @@
 // Each refusal's number, and the numbers that it carries. Assumes nothing.
 ghost use mathlib.Core.Path.{_≡_};
 ghost use Rattle.engine.specs.Refusals.{number as number-of};
+use crate::fault::Fault;
 use crate::refusal::Refusal;
+
+impl Fault {
+    // A fault that arises here: its layer is 0.
+    pub fn new(cause: u8, index: u8) -> Fault
+        ensures { λ r. ⌜ r ≡ record { layer = 0; cause = cause; index = index } ⌝ }
+    {
+        Fault { layer: 0, cause, index }
+    }
+}
 
 impl Refusal {
     pub fn number(&self) -> u8

@@ -1,0 +1,6 @@
+-- The lemmas that several proofs share, in the order of the layers.
+pub mod Back
+pub mod Cutting
+pub mod Gathered
+pub mod Spaced
+pub mod Spelt
