@@ -9,3 +9,6 @@ pub mod Tracing
 pub mod Stages
 pub mod Soundness
 pub mod Appending
+pub mod PairLists
+pub mod PairSteps
+pub mod Retiring

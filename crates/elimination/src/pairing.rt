@@ -46,7 +46,7 @@ fn append_pairs(table: &mut [Cell], held: usize, fader: usize) -> Result<usize, 
     ensures { λ r. ⌜ Appends fader held (pairs (uppers fader (lines (take held (now (table .entry))))) (lowers fader (lines (take held (now (table .entry)))))) (now (table .entry)) r (now (table .exit)) ⌝ }
 {
     let mut end = held;
-    let mut fault = None;
+    let mut stop = None;
     'pairs: for i in 0..held {
         let upper = table[i];
         if upper.is_upper(fader) {
@@ -54,14 +54,14 @@ fn append_pairs(table: &mut [Cell], held: usize, fader: usize) -> Result<usize, 
                 match append_pair(table, end, &upper, j, fader) {
                     Ok(n) => end = n,
                     Err(f) => {
-                        fault = Some(f);
+                        stop = Some(f);
                         break 'pairs;
                     }
                 }
             }
         }
     }
-    match fault {
+    match stop {
         Some(f) => Err(f),
         None => Ok(end),
     }
@@ -74,9 +74,8 @@ fn retire(table: &mut [Cell], held: usize, fader: usize)
     ensures rest { λ _. ⌜ drop held (now (table .exit)) ≡ drop held (now (table .entry)) ⌝ }
 {
     for i in 0..held {
-        if table[i].is_upper(fader) || table[i].is_lower(fader) {
-            table[i].aside = Some(fader as u8);
-        }
+        let cell = table[i];
+        table[i] = cell.retired(fader);
     }
 }
 

@@ -4,7 +4,7 @@ ghost use mathlib.Core.Bool.{true, false, _||_};
 ghost use Prim.Native.Nat.{_<_};
 ghost use Rattle.std.specs.Options.{Cases as BySome};
 ghost use Rattle.engine.specs.Rows.{constraint};
-ghost use Rattle.elimination.specs.Table.{coefficient, isPositive, isNegative, combined, fits};
+ghost use Rattle.elimination.specs.Table.{coefficient, isPositive, isNegative, combined, fits, set-aside};
 ghost use Rattle.elimination.specs.Working.{listed-line};
 ghost use Rattle.elimination.specs.Appends.{is-upper, is-lower};
 ghost use Rattle.elimination.specs.Lines.{line};
@@ -31,6 +31,28 @@ impl Cell {
             row: Carried::listed(row, place),
             strict,
             aside: None,
+        }
+    }
+
+    // The same row, set aside for a fader if it stands and has it.
+    pub fn retired(self, fader: usize) -> Cell
+        requires { ⌜ fader < 6 ⌝ }
+        ensures { λ r. ⌜ line r ≡ set-aside fader (line self) ⌝ }
+    {
+        let aside = match self.aside {
+            None => {
+                if self.row.coefficients[fader] != 0 {
+                    Some(fader as u8)
+                } else {
+                    None
+                }
+            }
+            Some(k) => Some(k),
+        };
+        Cell {
+            row: self.row,
+            strict: self.strict,
+            aside,
         }
     }
 
