@@ -12,3 +12,4 @@ pub mod Appending
 pub mod PairLists
 pub mod PairSteps
 pub mod Retiring
+pub mod FalseRows

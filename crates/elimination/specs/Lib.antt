@@ -4,3 +4,4 @@ pub mod Working
 pub mod Sound
 pub mod Lines
 pub mod Appends
+pub mod Choosing
