@@ -13,3 +13,4 @@ pub mod PairLists
 pub mod PairSteps
 pub mod Retiring
 pub mod FalseRows
+pub mod Filled
