@@ -48,10 +48,10 @@ lowered n d strict l h e =
 
 -- ---- the best limits
 
-abbrev compared : ℤ → ℤ → Bool → Bool → Bool
+abbrev pub compared : ℤ → ℤ → Bool → Bool → Bool
 compared a b s t = ltZ b a || (not (ltZ a b) && (s && not t))
 
-told : (a b : ℤ) (s t : Bool) → compared a b s t ≡ true → Under (not s) b a
+pub told : (a b : ℤ) (s t : Bool) → compared a b s t ≡ true → Under (not s) b a
 told a b s t e = by (ltZ b a) (ltZ a b) s t refl refl e
   where
     by : (x y s t : Bool) → ltZ b a ≡ x → ltZ a b ≡ y → (x || (not y && (s && not t))) ≡ true → Under (not s) b a
@@ -61,7 +61,7 @@ told a b s t e = by (ltZ b a) (ltZ a b) s t refl refl e
     by false false true t p q e = omega (arith, linear, lt-false)
     by false false false t p q e = absurd (false≢true e)
 
-denied : (a b : ℤ) (s t : Bool) → compared a b s t ≡ false → Under (s && not t) a b
+pub denied : (a b : ℤ) (s t : Bool) → compared a b s t ≡ false → Under (s && not t) a b
 denied a b s t e = by (ltZ b a) (ltZ a b) s t refl refl e
   where
     by : (x y s t : Bool) → ltZ b a ≡ x → ltZ a b ≡ y → (x || (not y && (s && not t))) ≡ false → Under (s && not t) a b

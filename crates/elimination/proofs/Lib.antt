@@ -14,3 +14,8 @@ pub mod PairSteps
 pub mod Retiring
 pub mod FalseRows
 pub mod Filled
+pub mod Remains
+pub mod Ranking
+pub mod Leasts
+pub mod Collecting
+pub mod Bested

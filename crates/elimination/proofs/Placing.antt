@@ -4,7 +4,6 @@ use mathlib.Core.List.{List, [], _∷_}
 use mathlib.Core.Bool.{true, _&&_}
 use Prim.Native.Nat.{ℕ, zero, suc, _*_, _/_, _≤_, _<_, _∣_}
 use native.Mathlib.Omega.{arith}
-use native.Mathlib.Nat.{div-mul-cancel, pos-of-dvd-of-pos, one-mul, eq-one-of-dvd-one, dvd-of-mul-dvd-mul-right, mul-dvd-mul-right}
 use lib.ListN.{length, getD, set}
 use lib.IntN.{ℤ, pos, natAbs, _+ℤ_, _-ℤ_, _*ℤ_, negℤ, *ℤ-zero, zero-*ℤ, *ℤ-comm}
 use lib.Signed.{quotZ}
@@ -15,7 +14,6 @@ use Rattle.std.proofs.shelf.Tests.{and-parts, leb-true}
 use Rattle.integers.specs.Vectors.{dot, scale}
 use Rattle.integers.specs.Divisors.{gcd-all}
 use Rattle.integers.specs.Fractions.{Least}
-use Rattle.integers.proofs.Bounds.{abs-mul}
 use Rattle.integers.proofs.Linear.{linear}
 use Rattle.integers.proofs.Order.{*ℤ-cancel}
 use Rattle.integers.proofs.Ring.{con, var, _⊕_, _⊖_, _⊗_, neg, vanish}
@@ -24,11 +22,12 @@ use Rattle.integers.proofs.DivisorLaws.{gcd-all-is-gcd-all}
 use Rattle.integers.proofs.FractionLaws.{quot-exact}
 use Rattle.engine.specs.Limits.{largest, Within, EachWithin}
 use Rattle.engine.proofs.Fits.{zero-within}
+use Rattle.engine.proofs.Reducing.{shared-above, quotient-above, restored, reduced-least}
 use Rattle.elimination.specs.Table.{Line, coefficient, isPositive, isNegative, size, near, all-near}
 use Rattle.elimination.specs.Levels.{Levels, Limit, remaining, divided, least}
 use Rattle.elimination.proofs.Alls.{cond-some}
 use Rattle.elimination.proofs.Unders.{Under, Held, Across, under-same, under-times, under-cancel}
-use Rattle.elimination.proofs.Blending.{some-of, positive-is, negative-is}
+use Rattle.elimination.proofs.Blending.{positive-is, negative-is}
 
 -- ---- numbers within G
 
@@ -54,15 +53,9 @@ length-scale w (x ∷ xs) = ap suc (length-scale w xs)
 
 -- ---- the same levels over the least denominator
 
-restored : (g : ℕ) (ns : List ℤ) → All (λ n. g ∣ natAbs n) ns → scale (pos g) (divided g ns) ≡ ns
-restored g [] h = refl
-restored g (n ∷ ns) h = λ i. (*ℤ-comm (pos g) (quotZ n (pos g)) ∙ quot-exact n g (h .0)) i ∷ restored g ns (h .1) i
-
-divides-back : (g h : ℕ) (ns : List ℤ) → All (λ n. g ∣ natAbs n) ns → All (λ n. h ∣ natAbs n) (divided g ns) → All (λ n. h * g ∣ natAbs n) ns
-divides-back g h [] a b = tt
-divides-back g h (n ∷ ns) a b =
-    let e : natAbs (quotZ n (pos g)) * g ≡ natAbs n = sym (abs-mul (quotZ n (pos g)) (pos g)) ∙ ap natAbs (quot-exact n g (a .0)) in
-    (subst (λ (x : ℕ). h * g ∣ x) e (mul-dvd-mul-right h (b .0) g), divides-back g h ns (a .1) (b .1))
+multiplied-back : (g : ℕ) (ns : List ℤ) → All (λ n. g ∣ natAbs n) ns → scale (pos g) (divided g ns) ≡ ns
+multiplied-back g [] h = refl
+multiplied-back g (n ∷ ns) h = λ i. (*ℤ-comm (pos g) (quotZ n (pos g)) ∙ quot-exact n g (h .0)) i ∷ multiplied-back g ns (h .1) i
 
 -- x is ns over d in lowest terms, within G
 pub record Leveled (ns : List ℤ) (d : ℕ) (x : Levels) : Type 0 where
@@ -81,20 +74,16 @@ leveled ns d x pd e =
     let is = gcd-all-is-gcd-all d ns in
     let c = cond-some (all-near (divided g ns) && near (pos (d / g))) (record { numerators = divided g ns; denominator = d / g }) x e in
     let t = and-parts (all-near (divided g ns)) (near (pos (d / g))) (c .0) in
-    let pg : 0 < g = pos-of-dvd-of-pos (is .first) pd in
-    let ed : d / g * g ≡ d = div-mul-cancel g (is .first) in
     subst (λ (y : Levels). Leveled ns d y) (c .1)
     (record {
       factor = g;
-      above = pg;
-      positive = some-of (d / g) d g pd ed;
-      numerators-are = restored g ns (is .each);
-      denominator-is = ed;
+      above = shared-above ns d pd;
+      positive = quotient-above ns d pd;
+      numerators-are = multiplied-back g ns (is .each);
+      denominator-is = restored ns d pd;
       within = all-near-within (divided g ns) (t .0);
       bounded = near-within (pos (d / g)) (t .1);
-      lowest = λ h p q. eq-one-of-dvd-one (dvd-of-mul-dvd-mul-right h pg
-          (subst (λ (y : ℕ). h * g ∣ y) (sym (one-mul g))
-          (is .greatest (h * g) (subst (λ (y : ℕ). h * g ∣ y) ed (mul-dvd-mul-right h p g)) (divides-back g h ns (is .each) q))));
+      lowest = reduced-least ns d pd;
     })
 
 module _ (ns : List ℤ) (d : ℕ) (x : Levels) (o : Leveled ns d x) where

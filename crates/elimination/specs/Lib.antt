@@ -5,3 +5,5 @@ pub mod Sound
 pub mod Lines
 pub mod Appends
 pub mod Choosing
+pub mod Limiting
+pub mod Tightest

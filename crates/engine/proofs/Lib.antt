@@ -7,3 +7,5 @@ pub mod Flaws
 pub mod Exactness
 pub mod StateRows
 pub mod Blends
+pub mod Writing
+pub mod Reducing

@@ -8,6 +8,7 @@ pub mod fault;
 pub mod flaw;
 pub mod interface;
 pub mod kind;
+pub mod lowest;
 pub mod making;
 pub mod numbering;
 pub mod preset;
