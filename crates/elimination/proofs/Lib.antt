@@ -19,3 +19,4 @@ pub mod Ranking
 pub mod Leasts
 pub mod Collecting
 pub mod Bested
+pub mod Conclusion

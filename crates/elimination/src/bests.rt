@@ -14,18 +14,16 @@ ghost use Rattle.elimination.specs.Levels.{isFor};
 ghost use Rattle.elimination.specs.Limiting.{limit-of};
 ghost use Rattle.elimination.specs.Tightest.{upper-of, lower-of, upper-limits, lower-limits, best-upper, best-lower};
 use crate::cell::Cell;
+use crate::limit::Limit;
+use crate::limits::lower_limit;
+use crate::limits::upper_limit;
+use crate::table::ROOM;
 use crate::tighter::Lower;
 use crate::tighter::LowerBetter;
 use crate::tighter::Upper;
 use crate::tighter::UpperBetter;
-use crate::limit::Limit;
-use crate::limits::lower_limit;
-use crate::limits::upper_limit;
 use engine::Preset;
 use integers::first_best;
-
-// The rows of a table at the most.
-const ROOM: usize = 256;
 
 // Whether the row is set aside for the fader.
 fn is_for(k: u8, cell: &Cell) -> bool

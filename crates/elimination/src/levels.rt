@@ -16,6 +16,7 @@ use crate::bests::best_upper;
 use crate::cell::Cell;
 use crate::raising::with_level;
 use crate::values::value;
+use engine::fault::NUMBER;
 use engine::FADERS;
 use engine::Fault;
 use engine::Preset;
@@ -56,11 +57,7 @@ pub fn all_set(table: &[Cell], count: u8) -> Result<Preset, Fault>
     for k in (0..count).rev() {
         match set_fader(table, k, &levels) {
             Some(next) => levels = next,
-            None => return Err(Fault {
-                layer: 0,
-                cause: 1,
-                index: k,
-            }),
+            None => return Err(Fault::new(NUMBER, k)),
         }
     }
     Ok(levels)

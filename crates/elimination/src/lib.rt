@@ -2,6 +2,7 @@
 pub mod bests;
 pub mod cell;
 pub mod choosing;
+pub mod engine;
 pub mod filling;
 pub mod levels;
 pub mod limit;
@@ -10,7 +11,12 @@ pub mod pairing;
 pub mod raising;
 pub mod rightness;
 pub mod table;
+#[cfg(test)]
+mod tests;
 pub mod tighter;
 pub mod values;
 
 pub use cell::Cell;
+pub use engine::Elimination;
+pub use engine::EliminationEngine;
+pub use table::ROOM;

@@ -3,6 +3,10 @@ ghost use mathlib.Core.Path.{_≡_};
 ghost use mathlib.Core.Bool.{true, false, _||_};
 ghost use Prim.Native.Nat.{_<_};
 ghost use Rattle.std.specs.Options.{Cases as BySome};
+ghost use lib.IntN.{pos};
+ghost use lib.ListN.{replicate};
+ghost use Rattle.engine.specs.declared.kind.Kind.the-variants.{AtMost};
+ghost use Rattle.engine.specs.Limits.{faders};
 ghost use Rattle.engine.specs.Rows.{constraint};
 ghost use Rattle.elimination.specs.Table.{coefficient, isPositive, isNegative, combined, fits, set-aside};
 ghost use Rattle.elimination.specs.Working.{listed-line};
@@ -19,6 +23,13 @@ use engine::Row;
 pub const ROOM: usize = 256;
 
 impl Cell {
+    // A row of zeros, to make a table of.
+    pub fn blank() -> Cell
+        ensures { λ r. ⌜ line r ≡ listed-line 0 (record { kind = AtMost; coefficients = replicate faders (pos 0); side = pos 0 }) ⌝ }
+    {
+        Cell::listed(&Row::zero(), 0)
+    }
+
     // The row at a place of the list, with weight 1 on itself.
     pub fn listed(row: &Row, place: usize) -> Cell
         ensures { λ r. ⌜ line r ≡ listed-line place (constraint (now (row .entry))) ⌝ }

@@ -9,3 +9,4 @@ pub mod StateRows
 pub mod Blends
 pub mod Writing
 pub mod Reducing
+pub mod Answered

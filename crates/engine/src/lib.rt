@@ -15,6 +15,7 @@ pub mod preset;
 pub mod presets;
 pub mod refusal;
 pub mod row;
+pub mod settling;
 pub mod state;
 pub mod states;
 #[cfg(test)]

@@ -30,5 +30,6 @@ loop-k-again c =
 
 pub returns-in-None : need.returns-in-None
 returns-in-None c =
-    set-none (c .loop-k .k) (c .loop-k .k - 1) (lines (c .args .table .now)) (levels-of (c .loop-k .levels)) (omega arith) (c .in-None .ensures tt)
+    ap (λ (f : Fault). Err f) (c .new .ensures)
+    ∙ set-none (c .loop-k .k) (c .loop-k .k - 1) (lines (c .args .table .now)) (levels-of (c .loop-k .levels)) (omega arith) (c .in-None .ensures tt)
     ∙ c .loop-k .inv

@@ -10,11 +10,10 @@ use Rattle.elimination.specs.Lines.{line}
 use Rattle.elimination.specs.Appends.{Appends}
 use Rattle.elimination.proofs.Appending.{appends-none}
 use Rattle.elimination.proofs.PairSteps.{inner-more, inner-ends, outer-row, outer-skips, outer-stops, outer-ends}
+use Rattle.elimination.proofs.Setting.{none-some}
 use Rattle.elimination.proofs.pairing.append_pairs.Needs as need
 use Rattle.elimination.proofs.pairing.append_pairs.Needs.{then-is-upper·else-loop-j-test, else-is-upper, else-pairs-test, then-pairs-test·then-is-upper·then-loop-j-test·in-Err}
 
-none-some : (f : Fault) → _≡_ {A = Option Fault} None (Some f) → ⊥
-none-some f e = let z : _≡_ {A = ℕ} 0 1 = cc in omega arith
 
 same-some : (f g : Fault) → _≡_ {A = Option Fault} (Some f) (Some g) → f ≡ g
 same-some f g e = cc

@@ -1,6 +1,6 @@
-use mathlib.Core.Path.{_≡_, refl, sym, ap, _∙_}
-use mathlib.Core.Bool.{true, false}
-use mathlib.Core.List.{List, [], _∷_, _++_}
+use mathlib.Core.Path.{_≡_, sym, ap, _∙_}
+use mathlib.Core.Bool.{true}
+use mathlib.Core.List.{List}
 use Prim.Native.Nat.{ℕ, _+_, _<_}
 use native.Mathlib.Omega.{arith}
 use borrow.Author.Needs.{needs}
@@ -8,34 +8,20 @@ use lib.IntN.{ℤ, pos, _*ℤ_, _+ℤ_}
 use lib.ListN.{length, getD, take, set}
 use mir.Syntax.{w32}
 use mir.Val.{SFits}
-use Rattle.std.specs.declared.option.Option.the-variants.{Some, None}
 use Rattle.std.proofs.shelf.Signed.{toZ-ofZ}
-use Rattle.std.proofs.shelf.Lists.{length-set, take-more-set, take-more, take-all}
+use Rattle.std.proofs.shelf.Lists.{length-set, take-all}
 use Rattle.std.proofs.shelf.Tests.{false≢true}
 use Rattle.integers.specs.Vectors.{add, scale}
-use Rattle.engine.specs.Limits.{near, all-near, narrowed}
+use Rattle.engine.specs.Limits.{all-near}
 use Rattle.engine.proofs.Fits.{fits-32}
-use Rattle.engine.proofs.Blends.{some-narrowed, none-narrowed, all-near-push, all-near-fails, blend-length, blend-at}
+use Rattle.engine.proofs.Blends.{blend-length, blend-at}
+use Rattle.engine.proofs.Writing.{failed, placed, still-near}
 use Rattle.engine.proofs.combining.blend.Needs as need
 
 -- one turn, at the place i of lists of one length
 module _ (m n : ℤ) (xs ys : List ℤ) (i : ℕ) (e : length xs ≡ length ys) (h : i < length xs) where
   within-whole : i < length (add (scale m xs) (scale n ys))
   within-whole = rw (blend-length m n xs ys e) h
-
-  failed : None ≡ narrowed (m *ℤ getD xs i (pos 0) +ℤ n *ℤ getD ys i (pos 0)) → false ≡ all-near (add (scale m xs) (scale n ys))
-  failed none = sym (all-near-fails (add (scale m xs) (scale n ys)) i within-whole (ap near (blend-at m n xs ys e i) ∙ none-narrowed (m *ℤ getD xs i (pos 0) +ℤ n *ℤ getD ys i (pos 0)) none))
-
-  placed : (out : List ℤ) (z : ℤ) → Some z ≡ narrowed (m *ℤ getD xs i (pos 0) +ℤ n *ℤ getD ys i (pos 0)) → length out ≡ length xs → take i out ≡ take i (add (scale m xs) (scale n ys)) → take (i + 1) (set out i z) ≡ take (i + 1) (add (scale m xs) (scale n ys))
-  placed out z s l t =
-      take-more-set out i z (omega arith)
-      ∙ (λ j. t j ++ (some-narrowed (m *ℤ getD xs i (pos 0) +ℤ n *ℤ getD ys i (pos 0)) z s .1 ∙ sym (blend-at m n xs ys e i)) j ∷ [])
-      ∙ sym (take-more (add (scale m xs) (scale n ys)) i (pos 0) within-whole)
-
-  still-near : (z : ℤ) → Some z ≡ narrowed (m *ℤ getD xs i (pos 0) +ℤ n *ℤ getD ys i (pos 0)) → all-near (take i (add (scale m xs) (scale n ys))) ≡ true → all-near (take (i + 1) (add (scale m xs) (scale n ys))) ≡ true
-  still-near z s a =
-      ap all-near (take-more (add (scale m xs) (scale n ys)) i (pos 0) within-whole)
-      ∙ all-near-push (take i (add (scale m xs) (scale n ys))) (getD (add (scale m xs) (scale n ys)) i (pos 0)) a (ap near (blend-at m n xs ys e i) ∙ some-narrowed (m *ℤ getD xs i (pos 0) +ℤ n *ℤ getD ys i (pos 0)) z s .0)
 
 pub returns-in-None : need.returns-in-None
 returns-in-None c =
@@ -45,7 +31,9 @@ returns-in-None c =
     let fx = fits-32 (getD (c .args .xs .now) i (pos 0)) (c .pre .numbers .0 i) in
     let fy = fits-32 (getD (c .args .ys .now) i (pos 0)) (c .pre .numbers .1 i) in
     let none = simp toZ-ofZ at (c .in-None .ensures tt) in
-    record { test = failed (c .args .m) (c .args .n) (c .args .xs .now) (c .args .ys .now) i (omega (arith, c .pre .places)) (omega (arith, c .pre .places)) none; value = λ e. absurd (false≢true e) }
+    let l : length (c .args .xs .now) ≡ length (c .args .ys .now) = omega (arith, c .pre .places) in
+    let h : i < length (c .args .xs .now) = omega (arith, c .pre .places) in
+    record { test = failed (add (scale (c .args .m) (c .args .xs .now)) (scale (c .args .n) (c .args .ys .now))) i (c .args .m *ℤ getD (c .args .xs .now) i (pos 0) +ℤ c .args .n *ℤ getD (c .args .ys .now) i (pos 0)) (within-whole (c .args .m) (c .args .n) (c .args .xs .now) (c .args .ys .now) i l h) (blend-at (c .args .m) (c .args .n) (c .args .xs .now) (c .args .ys .now) l i) none; value = λ e. absurd (false≢true e) }
 
 pub loop-i-again : need.loop-i-again
 loop-i-again c =
@@ -65,9 +53,13 @@ loop-i-again c =
     let l : length (c .args .xs .now) ≡ length (c .args .ys .now) = omega (arith, c .pre .places) in
     let h : i < length (c .args .xs .now) = omega (arith, c .pre .places) in
     let ez = toZ-ofZ w32 (c .in-Some .z) fz in
+    let z = c .args .m *ℤ getD (c .args .xs .now) i (pos 0) +ℤ c .args .n *ℤ getD (c .args .ys .now) i (pos 0) in
+    let w = within-whole (c .args .m) (c .args .n) (c .args .xs .now) (c .args .ys .now) i l h in
+    let a = blend-at (c .args .m) (c .args .n) (c .args .xs .now) (c .args .ys .now) l i in
+    let k : length (c .loop-i .out) ≡ length (W (c .args .m) (c .args .n)) = i0 ∙ sym (blend-length (c .args .m) (c .args .n) (c .args .xs .now) (c .args .ys .now) l) in
     (length-set (c .loop-i .out) i _ ∙ i0,
-    (λ j. take (i + 1) (set (c .loop-i .out) i (ez j))) ∙ placed (c .args .m) (c .args .n) (c .args .xs .now) (c .args .ys .now) i l h (c .loop-i .out) (c .in-Some .z) some i0 i1 ∙ sym (λ j. take (i + 1) (W (em j) (en j))),
-    (λ j. all-near (take (i + 1) (W (em j) (en j)))) ∙ still-near (c .args .m) (c .args .n) (c .args .xs .now) (c .args .ys .now) i l h (c .in-Some .z) some i2)
+    (λ j. take (i + 1) (set (c .loop-i .out) i (ez j))) ∙ placed (W (c .args .m) (c .args .n)) i z w a (c .loop-i .out) (c .in-Some .z) some k i1 ∙ sym (λ j. take (i + 1) (W (em j) (en j))),
+    (λ j. all-near (take (i + 1) (W (em j) (en j)))) ∙ still-near (W (c .args .m) (c .args .n)) i z w a (c .in-Some .z) some i2)
 
 pub returns : need.returns
 returns c =
