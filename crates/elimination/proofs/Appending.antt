@@ -21,8 +21,9 @@ use Rattle.elimination.specs.Appends.{Appends, is-lower, pairs-at}
 -- ---- the sum of the first pair, by whether there is room and whether it fits
 abbrev first-sum : ℕ → ℕ → Line × Line → List (Line × Line) → Bool → Bool → Result (List Line) Fault
 first-sum k n p ps b c = elim b [
-  true ↦ elim c [ true ↦ before (combined k (p .0) (p .1)) (sums k (n + 1) ps) | false ↦ Err (number-beyond k) ]
-  | false ↦ Err (table-full k) ]
+  | true ↦ elim c [ true ↦ before (combined k (p .0) (p .1)) (sums k (n + 1) ps) | false ↦ Err (number-beyond k) ]
+  | false ↦ Err (table-full k)
+]
 
 sums-by : (k n : ℕ) (p : Line × Line) (ps : List (Line × Line)) (b c : Bool) → ltb n room ≡ b → fits (combined k (p .0) (p .1)) ≡ c → sums k n (p ∷ ps) ≡ first-sum k n p ps b c
 sums-by k n p ps b c e f = λ i. first-sum k n p ps (e i) (f i)
@@ -71,7 +72,7 @@ sums-append k (p ∷ ps) qs n xs e = by (ltb n room) (fits (combined k (p .0) (p
         let r = combined k (p .0) (p .1) in
         let o = before-ok r (sums k (n + 1) ps) xs (sym (sums-by k n p ps true true f g) ∙ e) in
         let h : sums k n (p ∷ (ps ++ qs)) ≡ joining (r ∷ o .0) (sums k (n + length (r ∷ o .0)) qs) =
-            sums-by k n p (ps ++ qs) true true f g ∙ ap (before r) (ih (o .0) (o .1)) ∙ before-joining r (o .0) (sums k (n + 1 + length (o .0)) qs) ∙ ap (λ (m : ℕ). joining (r ∷ o .0) (sums k m qs)) (omega arith) in
+        sums-by k n p (ps ++ qs) true true f g ∙ ap (before r) (ih (o .0) (o .1)) ∙ before-joining r (o .0) (sums k (n + 1 + length (o .0)) qs) ∙ ap (λ (m : ℕ). joining (r ∷ o .0) (sums k m qs)) (omega arith) in
         subst (λ (zs : List Line). sums k n (p ∷ (ps ++ qs)) ≡ joining zs (sums k (n + length zs) qs)) (o .2) h
     by true false f g ih = absurd (clash xs (number-beyond k) (sym (sums-by k n p ps true false f g) ∙ e))
     by false c f g ih = absurd (clash xs (table-full k) (sym (sums-by k n p ps false c f g) ∙ e))
@@ -96,9 +97,13 @@ appends-none k n t h = (omega arith, h, refl, refl, ap (λ (c : List Cell). Ok (
 
 pub appends-one : (k n : ℕ) (u l : Line) (t : List Cell) (c : Cell) → n < room → room ≤ length t → fits (combined k u l) ≡ true → line c ≡ combined k u l → Appends k n ((u, l) ∷ []) t (Ok (n + 1)) (set t n c)
 appends-one k n u l t c h g e q =
-    let p : drop n (take (n + 1) (set t n c)) ≡ c ∷ [] = ap (drop n) (take-more-set t n c (omega arith)) ∙ drop-at (take n t) (c ∷ []) n (length-take-le n t (omega arith)) in
-    (omega arith, omega arith, length-set t n c, take-set t n c,
-    sums-more k n (u, l) [] h e ∙ ap (λ (x : Line). Ok (x ∷ [])) (sym q) ∙ ap (λ (x : List Cell). Ok (lines x)) (sym p))
+    let p : drop n (take (n + 1) (set t n c)) ≡ c ∷ [] = ap (drop n) (take-more-set t n c (omega arith)) ∙ drop-at (take n t) (c ∷ []) n (length-take-le n t (omega arith)) in (
+      omega arith,
+      omega arith,
+      length-set t n c,
+      take-set t n c,
+      sums-more k n (u, l) [] h e ∙ ap (λ (x : Line). Ok (x ∷ [])) (sym q) ∙ ap (λ (x : List Cell). Ok (lines x)) (sym p),
+    )
 
 pub appends-full : (k n : ℕ) (u l : Line) (t v : List Cell) → room ≤ n → Appends k n ((u, l) ∷ []) t (Err (table-full k)) v
 appends-full k n u l t v h = sums-full k n (u, l) [] h
@@ -122,12 +127,16 @@ appends-then k n m ps qs t u (Ok j) v h a b =
     let s : length new ≡ length (take m u) - n = length-map (drop n (take m u)) line ∙ length-drop n (take m u) in
     let w : length (take m u) ≡ m = length-take-le m u (omega (arith, a .1, a .2)) in
     let z : n + length new ≡ m = omega (arith, a .0) in
-    let y : take n v ≡ take n u = sym (take-take n m v (a .0)) ∙ ap (take n) (b .3) ∙ take-take n m u (a .0) in
-    (omega (arith, a .0, b .0), b .1, b .2 ∙ a .2, y ∙ a .3,
-    sums-append k ps qs n new (a .4)
-    ∙ ap (λ (i : ℕ). joining new (sums k i qs)) z
-    ∙ ap (joining new) (b .4)
-    ∙ ap Ok (sym (map-append line (drop n (take m u)) (drop m (take j v))) ∙ ap lines (part-join n m j u v (a .0) (b .0) (omega (arith, a .1, b .2, a .2)) (b .3))))
+    let y : take n v ≡ take n u = sym (take-take n m v (a .0)) ∙ ap (take n) (b .3) ∙ take-take n m u (a .0) in (
+      omega (arith, a .0, b .0),
+      b .1,
+      b .2 ∙ a .2,
+      y ∙ a .3,
+      sums-append k ps qs n new (a .4)
+          ∙ ap (λ (i : ℕ). joining new (sums k i qs)) z
+          ∙ ap (joining new) (b .4)
+          ∙ ap Ok (sym (map-append line (drop n (take m u)) (drop m (take j v))) ∙ ap lines (part-join n m j u v (a .0) (b .0) (omega (arith, a .1, b .2, a .2)) (b .3))),
+    )
 appends-then k n m ps qs t u (Err f) v h a b =
     let new = lines (drop n (take m u)) in
     let s : length new ≡ length (take m u) - n = length-map (drop n (take m u)) line ∙ length-drop n (take m u) in

@@ -25,8 +25,8 @@ module _ (f : Line → Line) (i : ℕ) (o t : List Cell) (c d : Cell) (h : i < l
       ∙ map-append line (take i t) (d ∷ [])
       ∙ (λ j. done j ++ r j ∷ [])
       ∙ sym (ap (λ (x : List Cell). map f (lines x)) (take-more o i c g ∙ ap (λ (x : Cell). take i o ++ x ∷ []) old-is)
-        ∙ ap (map f) (map-append line (take i o) (c ∷ []))
-        ∙ map-append f (lines (take i o)) (line c ∷ []))
+      ∙ ap (map f) (map-append line (take i o) (c ∷ []))
+      ∙ map-append f (lines (take i o)) (line c ∷ []))
 
   pub left-more : drop (i + 1) (set t i d) ≡ drop (i + 1) o
   left-more = drop-set-lt (i + 1) t i d (omega arith) ∙ sym (drop-drop 1 i t) ∙ ap (drop 1) left ∙ drop-drop 1 i o
@@ -47,8 +47,8 @@ module _ (k held m : ℕ) (o u v : List Cell) (hr : held ≤ room) (g : room ≤
       ap (λ (x : ℕ). joining (map (set-aside k) T) (sums k x (pairs (uppers k T) (lowers k T)))) n
       ∙ ap (joining (map (set-aside k) T)) (a .4)
       ∙ ap Ok ((λ j. (sym (s ∙ ap (λ (x : List Cell). map (set-aside k) (lines x)) (a .3))) j ++ lines (sym part-same j))
-        ∙ sym (map-append line (take held v) (drop held (take m v)))
-        ∙ ap lines (ap (λ (x : List Cell). x ++ drop held (take m v)) (sym (take-take held m v (a .0))) ∙ take-append-drop held (take m v)))
+      ∙ sym (map-append line (take held v) (drop held (take m v)))
+      ∙ ap lines (ap (λ (x : List Cell). x ++ drop held (take m v)) (sym (take-take held m v (a .0))) ∙ take-append-drop held (take m v)))
 
 pub eliminated-err : (k held : ℕ) (o u : List Cell) (f : Fault) → held ≤ room → room ≤ length o
     → Appends k held (pairs (uppers k (lines (take held o))) (lowers k (lines (take held o)))) o (Err f) u → eliminated k (lines (take held o)) ≡ Err f

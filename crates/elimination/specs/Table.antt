@@ -59,7 +59,8 @@ blend m n u l = record {
   side = pos m *ℤ u .side +ℤ pos n *ℤ l .side;
   strict = u .strict || l .strict;
   weights = add (scale (pos m) (u .weights)) (scale (pos n) (l .weights));
-  aside = None }
+  aside = None;
+}
 
 abbrev pub size : ℕ → Line → ℕ
 size k r = natAbs (coefficient r k)
@@ -82,8 +83,9 @@ abbrev pub sums : ℕ → ℕ → List (Line × Line) → Result (List Line) Fau
 sums k held [] = Ok []
 sums k held (p ∷ ps) =
     elim (ltb held room) [
-      true ↦ elim (fits (combined k (p .0) (p .1))) [ true ↦ before (combined k (p .0) (p .1)) (sums k (held + 1) ps) | false ↦ Err (number-beyond k) ]
-      | false ↦ Err (table-full k) ]
+      | true ↦ elim (fits (combined k (p .0) (p .1))) [ true ↦ before (combined k (p .0) (p .1)) (sums k (held + 1) ps) | false ↦ Err (number-beyond k) ]
+      | false ↦ Err (table-full k)
+    ]
 
 -- each of the first with each of the second, in order
 abbrev pub pairs : List Line → List Line → List (Line × Line)
@@ -96,7 +98,8 @@ set-aside k r = record {
   side = r .side;
   strict = r .strict;
   weights = r .weights;
-  aside = cond (stands r && ltb 0 (size k r)) (Some k) (r .aside) }
+  aside = cond (stands r && ltb 0 (size k r)) (Some k) (r .aside);
+}
 
 -- one fader eliminated
 abbrev pub joining : List Line → Result (List Line) Fault → Result (List Line) Fault

@@ -72,8 +72,9 @@ level-verdict (Err f) = Verdict.fault f
 -- what an eliminated table says
 abbrev pub concluded : ℕ → List Constraint → List Line → Verdict
 concluded count rows t = elim (chosen-false t) [
-  Some r ↦ Verdict.clash (take (length rows) (r .weights))
-  | None ↦ level-verdict (all-set count t at-rest) ]
+  | Some r ↦ Verdict.clash (take (length rows) (r .weights))
+  | None ↦ level-verdict (all-set count t at-rest)
+]
 
 abbrev pub worked-out : ℕ → List Constraint → Result (List Line) Fault → Verdict
 worked-out count rows (Ok t) = concluded count rows t
@@ -82,5 +83,6 @@ worked-out count rows (Err f) = Verdict.fault f
 -- a row of kind equal is not taken; otherwise all faders are eliminated, and the table then gives a clash or levels
 abbrev pub elimination-verdict : ℕ → List Constraint → Verdict
 elimination-verdict count rows = elim (first-equation 0 rows) [
-  Some i ↦ Verdict.fault (form-not-taken i)
-  | None ↦ worked-out count rows (all-eliminated count 0 (carried 0 rows)) ]
+  | Some i ↦ Verdict.fault (form-not-taken i)
+  | None ↦ worked-out count rows (all-eliminated count 0 (carried 0 rows))
+]

@@ -46,7 +46,11 @@ impl Cell {
     fn rank(&self) -> usize
         ensures { λ r. ⌜ r ≡ rank (line (now (self .entry))) ⌝ }
     {
-        if self.is_false() { self.support() } else { ROWS + 1 }
+        if self.is_false() {
+            self.support()
+        } else {
+            ROWS + 1
+        }
     }
 }
 

@@ -16,7 +16,6 @@ use crate::filling::first_equation;
 use crate::levels::all_set;
 use crate::pairing::eliminate_all;
 use crate::table::ROOM;
-use engine::fault::FORM;
 use engine::Answer;
 use engine::Engine;
 use engine::Fault;
@@ -24,7 +23,9 @@ use engine::Refusal;
 use engine::Row;
 use engine::State;
 use engine::Weights;
+use engine::fault::FORM;
 
+#[derive(Clone, Copy)]
 pub struct Elimination {
     pub state: State,
 }
@@ -34,7 +35,9 @@ impl Elimination {
     pub fn new() -> Elimination
         ensures { λ r. ⌜ state-view (r .state) ≡ record { count = 0; rows = []; answer = none } ⌝ }
     {
-        Elimination { state: State::new() }
+        Elimination {
+            state: State::new(),
+        }
     }
 }
 
@@ -44,7 +47,9 @@ fn conclude(table: &[Cell], count: u8) -> Result<Answer, Fault>
     ensures { λ r. ⌜ ((rows : List Constraint) → Says (length rows) (concluded count rows (lines (now (table .entry)))) r) ⌝ }
 {
     match choose_false(table) {
-        Some(cell) => Ok(Answer::Clash(Weights { values: cell.row.weights })),
+        Some(cell) => Ok(Answer::Clash(Weights {
+            values: cell.row.weights,
+        })),
         None => Ok(Answer::Preset(all_set(table, count)?)),
     }
 }

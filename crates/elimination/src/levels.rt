@@ -16,10 +16,10 @@ use crate::bests::best_upper;
 use crate::cell::Cell;
 use crate::raising::with_level;
 use crate::values::value;
-use engine::fault::NUMBER;
 use engine::FADERS;
 use engine::Fault;
 use engine::Preset;
+use engine::fault::NUMBER;
 
 // Fader k set, with the levels of the faders above it given; none where a number is beyond G.
 pub fn set_fader(table: &[Cell], k: u8, levels: &Preset) -> Option<Preset>

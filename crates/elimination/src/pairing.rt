@@ -10,14 +10,20 @@ ghost use Rattle.elimination.specs.Table.{room, uppers, lowers, pairs, set-asi
 ghost use Rattle.elimination.specs.Appends.{Appends, is-upper, pairs-at};
 ghost use Rattle.elimination.specs.Lines.{line, lines};
 use crate::cell::Cell;
-use crate::table::sum_of;
 use crate::table::ROOM;
+use crate::table::sum_of;
+use engine::Fault;
 use engine::fault::NUMBER;
 use engine::fault::TABLE;
-use engine::Fault;
 
 // Appends the sum of a row and the row at place j, if that is one of the other sort; how many rows the table then holds.
-fn append_pair(table: &mut [Cell], held: usize, upper: &Cell, j: usize, fader: usize) -> Result<usize, Fault>
+fn append_pair(
+    table: &mut [Cell],
+    held: usize,
+    upper: &Cell,
+    j: usize,
+    fader: usize,
+) -> Result<usize, Fault>
     requires place { ⌜ fader < 6 ⌝ }
     requires table { ⌜ j < held ⌝ ∗ ⌜ held ≤ room ⌝ ∗ ⌜ room ≤ length (now table) ⌝ }
     requires upper { ⌜ is-upper fader (line (now upper)) ≡ true ⌝ }

@@ -13,11 +13,11 @@ ghost use Rattle.elimination.specs.Working.{listed-line};
 ghost use Rattle.elimination.specs.Appends.{is-upper, is-lower};
 ghost use Rattle.elimination.specs.Lines.{line};
 use crate::cell::Cell;
-use engine::combine;
-use engine::parts;
 use engine::Carried;
 use engine::Kind;
 use engine::Row;
+use engine::combine;
+use engine::parts;
 
 // The rows that a table has to have room for.
 pub const ROOM: usize = 256;
@@ -107,5 +107,9 @@ pub fn sum_of(upper: &Cell, lower: &Cell, fader: usize) -> Option<Cell>
         return None;
     };
     let strict = either(upper.strict, lower.strict);
-    Some(Cell { row, strict, aside: None })
+    Some(Cell {
+        row,
+        strict,
+        aside: None,
+    })
 }

@@ -6,9 +6,9 @@ ghost use Rattle.std.specs.Options.{mapped};
 ghost use Rattle.std.specs.declared.option.Option.the-variants.{Some};
 ghost use Rattle.elimination.specs.Levels.{value};
 ghost use Rattle.elimination.specs.Limiting.{limit-of};
-use crate::tighter::across;
 use crate::limit::Limit;
 use crate::limits::lowest;
+use crate::tighter::across;
 
 // The numerator of a lower limit, and of 1 more where the limit may not be reached.
 fn above(l: &Limit) -> i64

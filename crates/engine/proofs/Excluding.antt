@@ -71,7 +71,8 @@ excludes ws rows c ns d p m =
     let e : dot (mix ws rows) ns ≡ pos 0 = dot-none (mix ws rows) ns (λ k. mix-at ws rows k ∙ c .columns k) in
     let q : pos 0 <ℤ pos d = omega (arith, linear) in
     let T = total ws rows in
-    let by : ((T <ℤ pos 0) ⊎ ((T ≡ pos 0) × Strictly ws rows)) → ⊥ = elim
-        [ inl f ↦ (let h = *ℤ-mono-< (pos d) q f in let s = summed ns d ws rows (c .weighed) m in omega (arith, linear, *ℤ-comm (pos d) T, *ℤ-zero (pos d)))
-        | inr f ↦ (let s = strictly ns d ws rows (c .weighed) m (f .1) in omega (arith, linear, ap (λ (t : ℤ). t *ℤ pos d) (f .0), zero-*ℤ (pos d))) ] in
+    let by : ((T <ℤ pos 0) ⊎ ((T ≡ pos 0) × Strictly ws rows)) → ⊥ = elim [
+      | inl f ↦ (let h = *ℤ-mono-< (pos d) q f in let s = summed ns d ws rows (c .weighed) m in omega (arith, linear, *ℤ-comm (pos d) T, *ℤ-zero (pos d)))
+      | inr f ↦ (let s = strictly ns d ws rows (c .weighed) m (f .1) in omega (arith, linear, ap (λ (t : ℤ). t *ℤ pos d) (f .0), zero-*ℤ (pos d)))
+    ] in
     by (c .falsehood)

@@ -40,7 +40,7 @@ past-within zs k h = subst Within (sym (getD-past zs k (pos 0) h)) zero-within
 
 pub within-take : (n : ℕ) (zs : List ℤ) → EachWithin zs → EachWithin (take n zs)
 within-take n zs w k = elim (cases-lt k n) [
-  inl h ↦ subst Within (sym (getD-take n zs k (pos 0) h)) (w k)
+  | inl h ↦ subst Within (sym (getD-take n zs k (pos 0) h)) (w k)
   | inr h ↦ past-within (take n zs) k (omega (arith, length-take n zs))
 ]
 

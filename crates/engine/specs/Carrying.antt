@@ -27,7 +27,8 @@ abbrev pub combination : ℤ → Sum → ℤ → Sum → Sum
 combination m a n b = record {
   coefficients = add (scale m (a .coefficients)) (scale n (b .coefficients));
   side = m *ℤ a .side +ℤ n *ℤ b .side;
-  weights = add (scale m (a .weights)) (scale n (b .weights)) }
+  weights = add (scale m (a .weights)) (scale n (b .weights));
+}
 
 -- every number is within G
 abbrev pub fits : Sum → Bool

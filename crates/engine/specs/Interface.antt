@@ -106,6 +106,7 @@ denominator-reply (Answer.clash ws) = Err NoAnswer
 
 abbrev pub weight-reply : ℕ → View → Result ℤ Refusal
 weight-reply i v = elim (v .answer) [
-  none ↦ Err NoAnswer
+  | none ↦ Err NoAnswer
   | Answer.preset ns d ↦ Err NoAnswer
-  | Answer.clash ws ↦ cond (ltb i (length (v .rows))) (Ok (getD ws i (pos 0))) (Err NoAnswer) ]
+  | Answer.clash ws ↦ cond (ltb i (length (v .rows))) (Ok (getD ws i (pos 0))) (Err NoAnswer)
+]

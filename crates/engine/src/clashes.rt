@@ -148,7 +148,11 @@ pub fn clash_flaw(weights: &Weights, rows: &[Row]) -> Option<ClashFlaw>
     if let Some(k) = first_column(weights, rows) {
         return Some(ClashFlaw::Column(k));
     }
-    if is_falsehood(weights, rows) { None } else { Some(ClashFlaw::Total) }
+    if is_falsehood(weights, rows) {
+        None
+    } else {
+        Some(ClashFlaw::Total)
+    }
 }
 
 // Whether the weights are a clash of the rows; then no levels meet them all.

@@ -10,9 +10,9 @@ ghost use Rattle.integers.specs.Vectors.{add, scale};
 ghost use Rattle.engine.specs.Limits.{most-rows, Within, EachWithin, narrowed, all-near};
 ghost use Rattle.engine.specs.Rows.{constraint};
 ghost use Rattle.engine.specs.Carrying.{numbers-of, listed, combination, fits};
-use crate::bounds::narrow;
 use crate::bounds::FADERS;
 use crate::bounds::ROWS;
+use crate::bounds::narrow;
 use crate::carried::Carried;
 use crate::row::Row;
 use integers::gcd;
@@ -98,5 +98,9 @@ pub fn combine(m: i32, a: &Carried, n: i32, b: &Carried) -> Option<Carried>
     if !blend(m, &a.weights, n, &b.weights, &mut weights) {
         return None;
     }
-    Some(Carried { coefficients, side, weights })
+    Some(Carried {
+        coefficients,
+        side,
+        weights,
+    })
 }

@@ -23,11 +23,11 @@ mod tests;
 pub mod weights;
 
 pub use answer::Answer;
-pub use bounds::narrow;
-pub use bounds::within;
 pub use bounds::FADERS;
 pub use bounds::G;
 pub use bounds::ROWS;
+pub use bounds::narrow;
+pub use bounds::within;
 pub use carried::Carried;
 pub use clashes::clash_flaw;
 pub use clashes::column;

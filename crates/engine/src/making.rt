@@ -8,11 +8,11 @@ ghost use Rattle.std.specs.Options.{Cases as BySome};
 ghost use Rattle.engine.specs.Limits.{largest, faders, Within, EachWithin};
 ghost use Rattle.engine.specs.declared.kind.Kind.the-variants.{AtMost};
 ghost use Rattle.engine.specs.Rows.{constraint};
-use crate::bounds::all_within;
-use crate::bounds::within;
 use crate::bounds::FADERS;
 use crate::bounds::G;
 use crate::bounds::ROWS;
+use crate::bounds::all_within;
+use crate::bounds::within;
 use crate::kind::Kind;
 use crate::preset::Preset;
 use crate::row::Row;
@@ -24,7 +24,11 @@ impl Row {
         ensures { λ r. ⌜ BySome r (EachWithin coefficients → Within side → ⊥) (λ row. (row .kind ≡ kind) × (row .coefficients ≡ coefficients) × (row .side ≡ side)) ⌝ }
     {
         if all_within(&coefficients) && within(side) {
-            Some(Row { kind, coefficients, side })
+            Some(Row {
+                kind,
+                coefficients,
+                side,
+            })
         } else {
             None
         }
@@ -48,7 +52,10 @@ impl Preset {
         ensures { λ r. ⌜ BySome r (EachWithin numerators → 0 < denominator → denominator ≤ largest → ⊥) (λ p. (p .numerators ≡ numerators) × (p .denominator ≡ denominator)) ⌝ }
     {
         if all_within(&numerators) && 0 < denominator && denominator <= G as u32 {
-            Some(Preset { numerators, denominator })
+            Some(Preset {
+                numerators,
+                denominator,
+            })
         } else {
             None
         }
@@ -60,6 +67,10 @@ impl Weights {
     pub fn new(values: [i32; ROWS]) -> Option<Weights>
         ensures { λ r. ⌜ BySome r (EachWithin values → ⊥) (λ w. w .values ≡ values) ⌝ }
     {
-        if all_within(&values) { Some(Weights { values }) } else { None }
+        if all_within(&values) {
+            Some(Weights { values })
+        } else {
+            None
+        }
     }
 }

@@ -9,7 +9,11 @@ impl Fault {
     pub fn new(cause: u8, index: u8) -> Fault
         ensures { λ r. ⌜ r ≡ record { layer = 0; cause = cause; index = index } ⌝ }
     {
-        Fault { layer: 0, cause, index }
+        Fault {
+            layer: 0,
+            cause,
+            index,
+        }
     }
 }
 

@@ -17,7 +17,6 @@ use crate::row::Row;
 use integers::common_divisor;
 use integers::product;
 
-
 impl Preset {
     // The row's coefficients times the numerators, added. Six products within G times G fit i64, and so does one more.
     pub fn sum(&self, row: &Row) -> i64

@@ -78,7 +78,9 @@ impl State {
         ensures { λ r. ⌜ r ≡ numerator-reply fader (state-view (now (self .entry)) .answer) ⌝ }
     {
         match &self.answer {
-            Answer::Preset(preset) if (fader as usize) < FADERS => Ok(preset.numerators[fader as usize]),
+            Answer::Preset(preset) if (fader as usize) < FADERS => Ok(
+                preset.numerators[fader as usize],
+            ),
             _ => Err(Refusal::NoAnswer),
         }
     }

@@ -59,9 +59,18 @@ fn two_faders() -> Result<(), Fail> {
     check(!preset(300, 230, 4)?.is_well_formed(2))?;
     check(!preset(150, 115, 2)?.is_well_formed(1))?;
     check(is_clash(&weights(0, 1, 1, 1)?, &rows))?;
-    check_eq(clash_flaw(&weights(0, 1, -1, 1)?, &rows), Some(ClashFlaw::Negative(2)))?;
-    check_eq(clash_flaw(&weights(1, 1, 1, 1)?, &rows), Some(ClashFlaw::Column(0)))?;
-    check_eq(clash_flaw(&weights(0, 0, 0, 0)?, &rows), Some(ClashFlaw::Total))
+    check_eq(
+        clash_flaw(&weights(0, 1, -1, 1)?, &rows),
+        Some(ClashFlaw::Negative(2)),
+    )?;
+    check_eq(
+        clash_flaw(&weights(1, 1, 1, 1)?, &rows),
+        Some(ClashFlaw::Column(0)),
+    )?;
+    check_eq(
+        clash_flaw(&weights(0, 0, 0, 0)?, &rows),
+        Some(ClashFlaw::Total),
+    )
 }
 
 #[test]

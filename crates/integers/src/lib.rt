@@ -3,10 +3,10 @@
 pub mod choice;
 pub mod divisors;
 pub mod fractions;
-pub mod widening;
 pub mod reducing;
 #[cfg(test)]
 mod tests;
+pub mod widening;
 
 pub use choice::Better;
 pub use choice::first_best;

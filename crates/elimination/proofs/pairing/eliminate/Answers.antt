@@ -13,6 +13,8 @@ returns-in-Break-end c =
 
 pub returns : need.returns
 returns c =
-    let a = c .in-Continue-end .ensures tt in
-    (a .1, omega (arith, a .2, c .retire .kept .table),
-    eliminated-ok (c .args .fader) (c .args .held) (c .in-Continue-end .end) (c .args .table .now) (c .append-pairs .last .table) (c .retire .last .table) (c .pre .table .0) (c .pre .table .1) a (c .retire .ensures .aside) (c .retire .ensures .rest))
+    let a = c .in-Continue-end .ensures tt in (
+      a .1,
+      omega (arith, a .2, c .retire .kept .table),
+      eliminated-ok (c .args .fader) (c .args .held) (c .in-Continue-end .end) (c .args .table .now) (c .append-pairs .last .table) (c .retire .last .table) (c .pre .table .0) (c .pre .table .1) a (c .retire .ensures .aside) (c .retire .ensures .rest),
+    )

@@ -13,9 +13,10 @@ loop-i-again c =
     let k = c .args .fader in
     let o = c .args .table .now in
     let t = c .loop-i .table in
-    let i = c .loop-i .i in
-    (retired-more (set-aside k) i o t (c .index-table-i .result) (c .retired .result) (omega (arith, c .pre, c .loop-i .kept .table)) (omega (arith, c .pre)) (c .loop-i .inv .0) (c .loop-i .inv .1) (c .index-table-i .is) (c .retired .ensures),
-    left-more (set-aside k) i o t (c .index-table-i .result) (c .retired .result) (omega (arith, c .pre, c .loop-i .kept .table)) (omega (arith, c .pre)) (c .loop-i .inv .0) (c .loop-i .inv .1) (c .index-table-i .is) (c .retired .ensures))
+    let i = c .loop-i .i in (
+      retired-more (set-aside k) i o t (c .index-table-i .result) (c .retired .result) (omega (arith, c .pre, c .loop-i .kept .table)) (omega (arith, c .pre)) (c .loop-i .inv .0) (c .loop-i .inv .1) (c .index-table-i .is) (c .retired .ensures),
+      left-more (set-aside k) i o t (c .index-table-i .result) (c .retired .result) (omega (arith, c .pre, c .loop-i .kept .table)) (omega (arith, c .pre)) (c .loop-i .inv .0) (c .loop-i .inv .1) (c .index-table-i .is) (c .retired .ensures),
+    )
 
 pub returns : need.returns
 returns c =

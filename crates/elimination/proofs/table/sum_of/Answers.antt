@@ -66,6 +66,7 @@ returns c =
     let em = factor-is (c .parts-n .result .1) (natAbs B / gcd-of (natAbs A) (natAbs B)) (c .parts-n .ensures .within .1) (simp toZ-ofZ at (c .parts-n .ensures .second)) in
     let en = factor-is (c .parts-n .result .0) (natAbs A / gcd-of (natAbs A) (natAbs B)) (c .parts-n .ensures .within .0) (simp toZ-ofZ at (c .parts-n .ensures .first)) in
     let s = c .in-Some .ensures tt in
-    let e : numbers-of (c .in-Some .row) ≡ combination (pos (natAbs B / gcd-of (natAbs A) (natAbs B))) (numbers-of u) (pos (natAbs A / gcd-of (natAbs A) (natAbs B))) (numbers-of l) = s .1 ∙ (λ j. combination (em j) (numbers-of u) (en j) (numbers-of l)) in
-    (sym (λ j. sum-fits (combination (em j) (numbers-of u) (en j) (numbers-of l))) ∙ s .0,
-    λ j. record { coefficients = e j .coefficients; side = e j .side; strict = c .either-strict .ensures j; weights = e j .weights; aside = None })
+    let e : numbers-of (c .in-Some .row) ≡ combination (pos (natAbs B / gcd-of (natAbs A) (natAbs B))) (numbers-of u) (pos (natAbs A / gcd-of (natAbs A) (natAbs B))) (numbers-of l) = s .1 ∙ (λ j. combination (em j) (numbers-of u) (en j) (numbers-of l)) in (
+      sym (λ j. sum-fits (combination (em j) (numbers-of u) (en j) (numbers-of l))) ∙ s .0,
+      λ j. record { coefficients = e j .coefficients; side = e j .side; strict = c .either-strict .ensures j; weights = e j .weights; aside = None },
+    )

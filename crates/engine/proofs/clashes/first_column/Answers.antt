@@ -30,6 +30,6 @@ loop-k-again c =
 
 pub returns : need.returns
 returns c k = elim (cases-lt k 6) [
-  inl h ↦ c .loop-k .inv k (omega arith)
+  | inl h ↦ c .loop-k .inv k (omega arith)
   | inr h ↦ column-past (c .args .weights .now .values) (c .args .rows .now) k h
 ]

@@ -36,8 +36,10 @@ pub returns : need.returns
 returns c =
     let ws = c .args .weights .now .values in
     let rs = constraints (c .args .rows .now) in
-    let n : length rs ≡ length (c .args .rows .now) = length-map (c .args .rows .now) constraint in
-    ((λ e. absurd (Rattle.std.proofs.shelf.Tests.false≢true e)), λ s. absurd (elim (cases-lt (c .loop-i .i) 16) [
-      inl h ↦ strictly-no-rows (drop (c .loop-i .i) ws) (subst (Strictly (drop (c .loop-i .i) ws)) (drop-all (c .loop-i .i) rs (omega (arith, n, c .min-i-end .ensures))) (c .loop-i .inv s))
-      | inr h ↦ subst (λ (v : List ℤ). Strictly v (drop (c .loop-i .i) rs)) (drop-all (c .loop-i .i) ws (omega (arith, c .args .weights .now .places))) (c .loop-i .inv s)
-    ]))
+    let n : length rs ≡ length (c .args .rows .now) = length-map (c .args .rows .now) constraint in (
+      (λ e. absurd (Rattle.std.proofs.shelf.Tests.false≢true e)),
+      λ s. absurd (elim (cases-lt (c .loop-i .i) 16) [
+        | inl h ↦ strictly-no-rows (drop (c .loop-i .i) ws) (subst (Strictly (drop (c .loop-i .i) ws)) (drop-all (c .loop-i .i) rs (omega (arith, n, c .min-i-end .ensures))) (c .loop-i .inv s))
+        | inr h ↦ subst (λ (v : List ℤ). Strictly v (drop (c .loop-i .i) rs)) (drop-all (c .loop-i .i) ws (omega (arith, c .args .weights .now .places))) (c .loop-i .inv s)
+      ]),
+    )

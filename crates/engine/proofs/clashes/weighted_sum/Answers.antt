@@ -64,7 +64,7 @@ loop-i-again c =
     let m = rest-more (c .loop-i .sum) ws ns (c .loop-i .i) (omega (arith, c .args .weights .now .places, short c)) (omega (arith, n, short c)) in
     let i : rest (c .loop-i .sum) ws ns (c .loop-i .i) ≡ dot ws ns = rw (c .loop-i .sum-is) at (c .loop-i .inv .0) in
     let t : c .product .result ≡ getD ws (c .loop-i .i) (pos 0) *ℤ getD ns (c .loop-i .i) (pos 0) =
-        turn c ∙ ap (λ (z : ℤ). getD ws (c .loop-i .i) (pos 0) *ℤ z) (c .part-of .ensures .value ∙ sym (numbers-at (c .args .part) (c .args .rows .now) (c .loop-i .i) (c .index-rows-i .result) (short c .1) (c .index-rows-i .is))) in
+    turn c ∙ ap (λ (z : ℤ). getD ws (c .loop-i .i) (pos 0) *ℤ z) (c .part-of .ensures .value ∙ sym (numbers-at (c .args .part) (c .args .rows .now) (c .loop-i .i) (c .index-rows-i .result) (short c .1) (c .index-rows-i .is))) in
     simp (toZ-ofZ, c .loop-i .sum-is) ((rw t (m ∙ i)), near c)
 
 pub returns : need.returns
@@ -74,7 +74,7 @@ returns c =
     let n = length-numbers (c .args .part) (c .args .rows .now) in
     let i : rest (c .loop-i .sum) ws ns (c .loop-i .i) ≡ dot ws ns = rw (c .loop-i .sum-is) at (c .loop-i .inv .0) in
     let done : rest (c .loop-i .sum) ws ns (c .loop-i .i) ≡ c .loop-i .sum = elim (cases-lt (c .loop-i .i) 16) [
-      inl h ↦ rest-all-right (c .loop-i .sum) ws ns (c .loop-i .i) (omega (arith, n, c .min-i-end .ensures))
+      | inl h ↦ rest-all-right (c .loop-i .sum) ws ns (c .loop-i .i) (omega (arith, n, c .min-i-end .ensures))
       | inr h ↦ rest-all-left (c .loop-i .sum) ws ns (c .loop-i .i) (omega (arith, c .args .weights .now .places))
     ] in
     c .loop-i .sum-is ∙ sym done ∙ i

@@ -56,10 +56,11 @@ loop-i-again c =
     let z = c .args .m *ℤ getD (c .args .xs .now) i (pos 0) +ℤ c .args .n *ℤ getD (c .args .ys .now) i (pos 0) in
     let w = within-whole (c .args .m) (c .args .n) (c .args .xs .now) (c .args .ys .now) i l h in
     let a = blend-at (c .args .m) (c .args .n) (c .args .xs .now) (c .args .ys .now) l i in
-    let k : length (c .loop-i .out) ≡ length (W (c .args .m) (c .args .n)) = i0 ∙ sym (blend-length (c .args .m) (c .args .n) (c .args .xs .now) (c .args .ys .now) l) in
-    (length-set (c .loop-i .out) i _ ∙ i0,
-    (λ j. take (i + 1) (set (c .loop-i .out) i (ez j))) ∙ placed (W (c .args .m) (c .args .n)) i z w a (c .loop-i .out) (c .in-Some .z) some k i1 ∙ sym (λ j. take (i + 1) (W (em j) (en j))),
-    (λ j. all-near (take (i + 1) (W (em j) (en j)))) ∙ still-near (W (c .args .m) (c .args .n)) i z w a (c .in-Some .z) some i2)
+    let k : length (c .loop-i .out) ≡ length (W (c .args .m) (c .args .n)) = i0 ∙ sym (blend-length (c .args .m) (c .args .n) (c .args .xs .now) (c .args .ys .now) l) in (
+      length-set (c .loop-i .out) i _ ∙ i0,
+      (λ j. take (i + 1) (set (c .loop-i .out) i (ez j))) ∙ placed (W (c .args .m) (c .args .n)) i z w a (c .loop-i .out) (c .in-Some .z) some k i1 ∙ sym (λ j. take (i + 1) (W (em j) (en j))),
+      (λ j. all-near (take (i + 1) (W (em j) (en j)))) ∙ still-near (W (c .args .m) (c .args .n)) i z w a (c .in-Some .z) some i2,
+    )
 
 pub returns : need.returns
 returns c =

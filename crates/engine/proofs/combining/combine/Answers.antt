@@ -88,12 +88,19 @@ ghost-result c =
     let m = c .args .m in
     let n = c .args .n in
     let fz : SFits w32 (c .in-Some .side) = search needs in
-    let s = side-of m n (a .side) (b .side) (c .in-Some .side) (c .fits .m) (c .fits .n) (a .bounded) (b .bounded) (c .in-Some .ensures tt) in
-    (written-length m n (c .fits .m) (c .fits .n) (a .coefficients) (b .coefficients) (c .blend .last .out) (c .blend .result) (c .blend .ensures .test) (c .blend .ensures .value) (c .if-not-blend .left) (a .places ∙ sym (b .places)) ∙ a .places,
-    (written-within m n (c .fits .m) (c .fits .n) (a .coefficients) (b .coefficients) (c .blend .last .out) (c .blend .result) (c .blend .ensures .test) (c .blend .ensures .value) (c .if-not-blend .left),
-    (simp toZ-ofZ (near-within (c .in-Some .side) (ap near (s .1) ∙ s .0)),
-    (written-length m n (c .fits .m) (c .fits .n) (a .weights) (b .weights) (c .blend-2 .last .out) (c .blend-2 .result) (c .blend-2 .ensures .test) (c .blend-2 .ensures .value) (c .if-not-blend-2 .left) (a .loads ∙ sym (b .loads)) ∙ a .loads,
-    (written-within m n (c .fits .m) (c .fits .n) (a .weights) (b .weights) (c .blend-2 .last .out) (c .blend-2 .result) (c .blend-2 .ensures .test) (c .blend-2 .ensures .value) (c .if-not-blend-2 .left), tt)))))
+    let s = side-of m n (a .side) (b .side) (c .in-Some .side) (c .fits .m) (c .fits .n) (a .bounded) (b .bounded) (c .in-Some .ensures tt) in (
+      written-length m n (c .fits .m) (c .fits .n) (a .coefficients) (b .coefficients) (c .blend .last .out) (c .blend .result) (c .blend .ensures .test) (c .blend .ensures .value) (c .if-not-blend .left) (a .places ∙ sym (b .places)) ∙ a .places,
+      (
+        written-within m n (c .fits .m) (c .fits .n) (a .coefficients) (b .coefficients) (c .blend .last .out) (c .blend .result) (c .blend .ensures .test) (c .blend .ensures .value) (c .if-not-blend .left),
+        (
+          simp toZ-ofZ (near-within (c .in-Some .side) (ap near (s .1) ∙ s .0)),
+          (
+            written-length m n (c .fits .m) (c .fits .n) (a .weights) (b .weights) (c .blend-2 .last .out) (c .blend-2 .result) (c .blend-2 .ensures .test) (c .blend-2 .ensures .value) (c .if-not-blend-2 .left) (a .loads ∙ sym (b .loads)) ∙ a .loads,
+            (written-within m n (c .fits .m) (c .fits .n) (a .weights) (b .weights) (c .blend-2 .last .out) (c .blend-2 .result) (c .blend-2 .ensures .test) (c .blend-2 .ensures .value) (c .if-not-blend-2 .left), tt),
+          ),
+        ),
+      ),
+    )
 
 pub returns : need.returns
 returns c =
@@ -104,9 +111,10 @@ returns c =
     let fz : SFits w32 (c .in-Some .side) = search needs in
     let z = side-of m n (a .side) (b .side) (c .in-Some .side) (c .fits .m) (c .fits .n) (a .bounded) (b .bounded) (c .in-Some .ensures tt) in
     let cs = written-is m n (c .fits .m) (c .fits .n) (a .coefficients) (b .coefficients) (c .blend .last .out) (c .blend .result) (c .blend .ensures .test) (c .blend .ensures .value) (c .if-not-blend .left) in
-    let ws = written-is m n (c .fits .m) (c .fits .n) (a .weights) (b .weights) (c .blend-2 .last .out) (c .blend-2 .result) (c .blend-2 .ensures .test) (c .blend-2 .ensures .value) (c .if-not-blend-2 .left) in
-    (all-parts (combination m (numbers-of a) n (numbers-of b))
-    (written-near m n (c .fits .m) (c .fits .n) (a .coefficients) (b .coefficients) (c .blend .last .out) (c .blend .result) (c .blend .ensures .test) (c .blend .ensures .value) (c .if-not-blend .left))
-    (z .0)
-    (written-near m n (c .fits .m) (c .fits .n) (a .weights) (b .weights) (c .blend-2 .last .out) (c .blend-2 .result) (c .blend-2 .ensures .test) (c .blend-2 .ensures .value) (c .if-not-blend-2 .left)),
-    λ j. record { coefficients = cs j; side = (toZ-ofZ w32 (c .in-Some .side) fz ∙ z .1) j; weights = ws j })
+    let ws = written-is m n (c .fits .m) (c .fits .n) (a .weights) (b .weights) (c .blend-2 .last .out) (c .blend-2 .result) (c .blend-2 .ensures .test) (c .blend-2 .ensures .value) (c .if-not-blend-2 .left) in (
+      all-parts (combination m (numbers-of a) n (numbers-of b))
+          (written-near m n (c .fits .m) (c .fits .n) (a .coefficients) (b .coefficients) (c .blend .last .out) (c .blend .result) (c .blend .ensures .test) (c .blend .ensures .value) (c .if-not-blend .left))
+          (z .0)
+          (written-near m n (c .fits .m) (c .fits .n) (a .weights) (b .weights) (c .blend-2 .last .out) (c .blend-2 .result) (c .blend-2 .ensures .test) (c .blend-2 .ensures .value) (c .if-not-blend-2 .left)),
+      λ j. record { coefficients = cs j; side = (toZ-ofZ w32 (c .in-Some .side) fz ∙ z .1) j; weights = ws j },
+    )

@@ -20,7 +20,7 @@ loop-i-again c =
     let f = fits-32 (getD ws i (pos 0)) (c .args .self .now .row .light i) in
     let t = simp toZ-ofZ at (c .weighs .ensures) in
     elim (c .if-weighs .came) [
-      then-weighs w ↦ (w .n-is ∙ ap (λ (x : ℕ). x + 1) (c .loop-i .inv .0) ∙ sym (countBy-more-yes (λ w. ltb 0 (natAbs w)) ws i (pos 0) (omega (arith, c .args .self .now .row .loads)) (sym t ∙ w .if-weighs .taken)), omega (arith, w .n-is))
+      | then-weighs w ↦ (w .n-is ∙ ap (λ (x : ℕ). x + 1) (c .loop-i .inv .0) ∙ sym (countBy-more-yes (λ w. ltb 0 (natAbs w)) ws i (pos 0) (omega (arith, c .args .self .now .row .loads)) (sym t ∙ w .if-weighs .taken)), omega (arith, w .n-is))
       | else-weighs w ↦ (w .n-is ∙ c .loop-i .inv .0 ∙ sym (countBy-more-no (λ w. ltb 0 (natAbs w)) ws i (pos 0) (omega (arith, c .args .self .now .row .loads)) (sym t ∙ w .if-weighs .left)), omega (arith, w .n-is))
     ]
 

@@ -12,9 +12,19 @@ use Rattle.engine.proofs.carried.Carried.listed.Needs as need
 pub ghost-result : need.ghost-result
 ghost-result c =
     let r = c .args .row .now in
-    let f = fits-32 (r .side) (r .bounded) in
-    (r .places, (r .within, (simp toZ-ofZ (r .bounded), (ap length (c .unit-weights .ensures) ∙ length-set (replicate most-rows (pos 0)) (c .args .place) (pos 1),
-    (subst EachWithin (sym (c .unit-weights .ensures)) (within-set (replicate most-rows (pos 0)) (c .args .place) (pos 1) (zeros-within most-rows) (lit≤ tt)), tt)))))
+    let f = fits-32 (r .side) (r .bounded) in (
+      r .places,
+      (
+        r .within,
+        (
+          simp toZ-ofZ (r .bounded),
+          (
+            ap length (c .unit-weights .ensures) ∙ length-set (replicate most-rows (pos 0)) (c .args .place) (pos 1),
+            (subst EachWithin (sym (c .unit-weights .ensures)) (within-set (replicate most-rows (pos 0)) (c .args .place) (pos 1) (zeros-within most-rows) (lit≤ tt)), tt),
+          ),
+        ),
+      ),
+    )
 
 pub returns : need.returns
 returns c =

@@ -19,14 +19,15 @@ loop-k-again c =
     let n = getD ns (c .loop-k .k) (pos 0) in
     let f : SFits w32 n = fits-32 n (c .args .self .now .within (c .loop-k .k)) in
     let g : SFits w64 n = omega (arith, ints) in
-    simp toZ-ofZ
-    (length-set (c .loop-k .numerators) (c .loop-k .k) n ∙ c .loop-k .inv .0,
-    take-more-set (c .loop-k .numerators) (c .loop-k .k) n (omega (arith, c .loop-k .inv .0)) ∙ ap (λ (zs : List ℤ). zs ++ n ∷ []) (c .loop-k .inv .1) ∙ sym (take-more ns (c .loop-k .k) (pos 0) (omega (arith, c .args .self .now .places))))
+    simp toZ-ofZ (
+      length-set (c .loop-k .numerators) (c .loop-k .k) n ∙ c .loop-k .inv .0,
+      take-more-set (c .loop-k .numerators) (c .loop-k .k) n (omega (arith, c .loop-k .inv .0)) ∙ ap (λ (zs : List ℤ). zs ++ n ∷ []) (c .loop-k .inv .1) ∙ sym (take-more ns (c .loop-k .k) (pos 0) (omega (arith, c .args .self .now .places))),
+    )
 
 pub returns : need.returns
 returns c =
     let p = c .args .self .now in
     let e : c .loop-k .numerators ≡ p .numerators =
-        sym (take-all (c .loop-k .k) (c .loop-k .numerators) (omega (arith, c .loop-k .inv .0))) ∙ c .loop-k .inv .1 ∙ take-all (c .loop-k .k) (p .numerators) (omega (arith, p .places)) in
+    sym (take-all (c .loop-k .k) (c .loop-k .numerators) (omega (arith, c .loop-k .inv .0))) ∙ c .loop-k .inv .1 ∙ take-all (c .loop-k .k) (p .numerators) (omega (arith, p .places)) in
     let a : IsGcdAll (p .denominator) (p .numerators) (c .common-divisor .result) = subst (λ (zs : List ℤ). IsGcdAll (p .denominator) zs (c .common-divisor .result)) e (c .common-divisor .ensures .greatest) in
     record { greatest = a; least = (least-from-one (p .numerators) (p .denominator) (c .common-divisor .result) a, one-from-least (p .numerators) (p .denominator) (c .common-divisor .result) a) }
