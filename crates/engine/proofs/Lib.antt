@@ -10,3 +10,7 @@ pub mod Blends
 pub mod Writing
 pub mod Reducing
 pub mod Answered
+pub mod Alls
+pub mod Comparing
+pub mod Leveling
+pub mod Listing

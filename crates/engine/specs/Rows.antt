@@ -1,9 +1,10 @@
 -- What a row says, and which levels meet it. Assumes nothing.
-use Prim.Native.Nat.{ℕ, _<_}
+use Prim.Native.Nat.{ℕ, _<_, _≤_}
 use mathlib.Core.Path.{_≡_}
 use mathlib.Core.List.{List, [], _∷_, map}
 use lib.IntN.{ℤ, pos, _*ℤ_}
 use lib.Signed.{_≤ℤ_, _<ℤ_}
+use lib.ListN.{getD}
 use Rattle.std.specs.shelf.Lists.{All}
 use Rattle.integers.specs.Vectors.{dot}
 use Rattle.engine.specs.declared.kind.Kind.{Kind}
@@ -48,3 +49,13 @@ Infeasible rows = (ns : List ℤ) (d : ℕ) → 0 < d → MeetsAll ns d rows →
 -- the place of the first row that the levels do not meet
 abbrev pub FirstUnmet : List ℤ → ℕ → List Constraint → ℕ → Type 0
 FirstUnmet ns d rows i = FirstWithout (Meets ns d) rows i
+
+-- the coefficient of the row at place i, at fader k; 0 where there is no such row
+abbrev pub coefficient-at : List Row → ℕ → ℕ → ℤ
+coefficient-at [] i k = pos 0
+coefficient-at (r ∷ rows) ℕ.zero k = getD (r .coefficients) k (pos 0)
+coefficient-at (r ∷ rows) (ℕ.suc i) k = coefficient-at rows i k
+
+-- no row has a coefficient other than 0 at a fader at or above the count
+abbrev pub UsedBelow : ℕ → List Row → Type 0
+UsedBelow count rows = (i k : ℕ) → count ≤ k → coefficient-at rows i k ≡ pos 0

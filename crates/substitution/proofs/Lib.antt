@@ -1,0 +1,5 @@
+pub mod Cancelling
+pub mod Tracing
+pub mod Clashing
+pub mod Completing
+pub mod Soundness

@@ -1,0 +1,20 @@
+-- The rows and pivots of the program as those of the working. Assumes nothing.
+use mathlib.Core.List.{List, [], _∷_, map}
+use Rattle.engine.specs.Carrying.{numbers-of}
+use Rattle.substitution.specs.declared.kept.Kept.{Kept as Held}
+use Rattle.substitution.specs.declared.kept.Pivot.{Pivot as HeldPivot}
+use Rattle.substitution.specs.Reduction.{Kept, Pivot}
+
+abbrev pub kept-of : Held → Kept
+kept-of h = record { kind = h .kind; sum = numbers-of (h .row) }
+
+abbrev pub kepts : List Held → List Kept
+kepts hs = map kept-of hs
+
+abbrev pub pivot-of : HeldPivot → Pivot
+pivot-of p = record { fader = p .fader; sum = numbers-of (p .row) }
+
+-- the pivots with the last first, before others
+abbrev pub latest-first : List HeldPivot → List Pivot → List Pivot
+latest-first [] ps = ps
+latest-first (p ∷ more) ps = latest-first more (pivot-of p ∷ ps)

@@ -1,0 +1,5 @@
+pub mod Reduction
+pub mod Lifting
+pub mod Working
+pub mod Sound
+pub mod Holding
