@@ -6,13 +6,11 @@ ghost use Rattle.std.specs.Options.{mapped};
 ghost use Rattle.engine.specs.Limits.{faders};
 ghost use Rattle.elimination.specs.Lines.{line};
 ghost use Rattle.elimination.specs.Table.{size};
-ghost use Rattle.elimination.specs.Levels.{remaining, lowest, upper-limit, lower-limit};
+ghost use Rattle.elimination.specs.Levels.{lowest, upper-limit, lower-limit};
 ghost use Rattle.elimination.specs.Limiting.{limit-of, levels-of};
 use crate::cell::Cell;
 use crate::limit::Limit;
-use engine::Kind;
 use engine::Preset;
-use engine::Row;
 use engine::narrow;
 use integers::Fraction;
 
@@ -37,18 +35,6 @@ pub fn lowest(numerator: i64, denominator: u64, strict: bool) -> Option<Limit>
     })
 }
 
-// What the row's side leaves for the fader, times the denominator. Seven products within G times G fit i64.
-pub fn remaining(levels: &Preset, cell: &Cell) -> i64
-    ensures { λ r. ⌜ r ≡ remaining (levels-of (now (levels .entry))) (line (now (cell .entry))) ⌝ }
-{
-    let row = Row {
-        kind: Kind::AtMost,
-        coefficients: cell.row.coefficients,
-        side: cell.row.side,
-    };
-    levels.scaled_side(&row) - levels.sum(&row)
-}
-
 // The size of the fader's coefficient, times the denominator.
 fn divisor(k: u8, levels: &Preset, cell: &Cell) -> u64
     requires { ⌜ k < faders ⌝ ∗ ⌜ 0 < size k (line (now cell)) ⌝ }
@@ -64,7 +50,7 @@ pub fn upper_limit(k: u8, levels: &Preset, cell: &Cell) -> Option<Limit>
     ensures { λ r. ⌜ mapped limit-of r ≡ upper-limit k (levels-of (now (levels .entry))) (line (now (cell .entry))) ⌝ }
 {
     lowest(
-        remaining(levels, cell),
+        levels.remaining(&cell.row),
         divisor(k, levels, cell),
         cell.strict,
     )
@@ -76,7 +62,7 @@ pub fn lower_limit(k: u8, levels: &Preset, cell: &Cell) -> Option<Limit>
     ensures { λ r. ⌜ mapped limit-of r ≡ lower-limit k (levels-of (now (levels .entry))) (line (now (cell .entry))) ⌝ }
 {
     lowest(
-        -remaining(levels, cell),
+        -levels.remaining(&cell.row),
         divisor(k, levels, cell),
         cell.strict,
     )

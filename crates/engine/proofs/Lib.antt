@@ -14,3 +14,4 @@ pub mod Alls
 pub mod Comparing
 pub mod Leveling
 pub mod Listing
+pub mod Remainders

@@ -2,9 +2,9 @@
 use Prim.Native.Nat.{ℕ}
 use mathlib.Core.Bool.{Bool, _&&_}
 use mathlib.Core.List.{List}
-use lib.IntN.{ℤ, pos, _+ℤ_, _*ℤ_}
+use lib.IntN.{ℤ, pos, _+ℤ_, _-ℤ_, _*ℤ_}
 use lib.ListN.{replicate, set}
-use Rattle.integers.specs.Vectors.{add, scale}
+use Rattle.integers.specs.Vectors.{add, dot, scale}
 use Rattle.engine.specs.declared.carried.Carried.{Carried}
 use Rattle.engine.specs.Limits.{most-rows, near, all-near}
 use Rattle.engine.specs.Rows.{Constraint}
@@ -33,3 +33,7 @@ combination m a n b = record {
 -- every number is within G
 abbrev pub fits : Sum → Bool
 fits s = all-near (s .coefficients) && (near (s .side) && all-near (s .weights))
+
+-- what the side leaves at levels, times their denominator
+abbrev pub remaining : Sum → List ℤ → ℕ → ℤ
+remaining s ns d = (s .side *ℤ pos d) -ℤ dot (s .coefficients) ns

@@ -14,6 +14,7 @@ pub mod numbering;
 pub mod preset;
 pub mod presets;
 pub mod refusal;
+pub mod remains;
 pub mod row;
 pub mod settling;
 pub mod state;

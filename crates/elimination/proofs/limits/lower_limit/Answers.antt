@@ -7,15 +7,15 @@ use Rattle.std.proofs.shelf.Signed.{toZ-ofZ}
 use Rattle.elimination.specs.Lines.{line}
 use Rattle.elimination.specs.Levels.{remaining, lowest}
 use Rattle.elimination.specs.Limiting.{levels-of}
-use Rattle.elimination.proofs.Remains.{negated-fits}
+use Rattle.elimination.proofs.Remains.{turned}
 use Rattle.elimination.proofs.limits.lower_limit.Needs as need
 use Rattle.elimination.proofs.limits.lower_limit.Needs.{After-remaining}
 
 negated : (c : After-remaining) → pos 0 -ℤ c .remaining .result ≡ negℤ (remaining (levels-of (c .args .levels .now)) (line (c .args .cell .now)))
-negated c = +ℤ-idl (negℤ (c .remaining .result)) ∙ (λ i. negℤ (c .remaining .ensures i))
+negated c = +ℤ-idl (negℤ (c .remaining .result)) ∙ (λ i. negℤ (c .remaining .ensures .value i))
 
 fits : (c : After-remaining) → SFits w64 (pos 0 -ℤ c .remaining .result)
-fits c = subst (SFits w64) (sym (negated c)) (negated-fits (c .args .levels .now) (c .args .cell .now))
+fits c = subst (SFits w64) (sym (+ℤ-idl (negℤ (c .remaining .result)))) (turned (c .remaining .result) (c .remaining .ensures .size))
 
 pub sub-remaining : need.sub-remaining
 sub-remaining c =
