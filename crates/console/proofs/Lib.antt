@@ -1,0 +1,3 @@
+pub mod PlanRules
+pub mod Offending
+pub mod Answering

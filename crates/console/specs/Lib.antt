@@ -1,0 +1,4 @@
+pub mod Ranges
+pub mod Rules
+pub mod Plans
+pub mod Edits
