@@ -1,3 +1,4 @@
 pub mod PlanRules
 pub mod Offending
 pub mod Answering
+pub mod Soundings

@@ -2,3 +2,4 @@ pub mod Ranges
 pub mod Rules
 pub mod Plans
 pub mod Edits
+pub mod Sounding

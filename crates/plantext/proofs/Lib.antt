@@ -2,5 +2,6 @@
 pub mod Back
 pub mod Cutting
 pub mod Gathered
+pub mod Lining
 pub mod Spaced
 pub mod Spelt

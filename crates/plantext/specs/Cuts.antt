@@ -1,4 +1,4 @@
--- How a line is cut into words, as lists of bytes. Assumes nothing.
+-- How a text is cut into lines and a line into words, as lists of bytes. Assumes nothing.
 use mathlib.Core.Bool.{Bool, not, cond, _||_}
 use mathlib.Core.List.{List, [], _∷_, _++_}
 use Prim.Native.Nat.{ℕ}
@@ -30,3 +30,16 @@ words-after w (b ∷ bs) = cond (white b) (ended w ++ words-after [] bs) (words-
 -- the longest runs of bytes that are not white
 abbrev pub words : List ℕ → List (List ℕ)
 words bs = words-after [] bs
+
+-- any byte but a line feed
+abbrev pub unbroken : ℕ → Bool
+unbroken b = not (eqb b 10)
+
+-- the lines of a text that goes on after the bytes w of a line
+abbrev pub lines-after : List ℕ → List ℕ → List (List ℕ)
+lines-after w [] = ended w
+lines-after w (b ∷ bs) = cond (eqb b 10) (w ∷ lines-after [] bs) (lines-after (w ++ b ∷ []) bs)
+
+-- what stands before each line feed, and after the last one if that is not empty
+abbrev pub lines : List ℕ → List (List ℕ)
+lines bs = lines-after [] bs

@@ -1,4 +1,4 @@
-// The readable text of a plan and of claimed answers: a line's bytes to words, words to a statement. It sees only the standard library.
+// The readable text of a plan and of claimed answers: a text's bytes to lines, a line's bytes to words, words to a statement. It sees only the standard library.
 pub mod cut;
 pub mod spelling;
 pub mod statement;
@@ -8,6 +8,7 @@ mod tests;
 pub mod word;
 pub mod words;
 
+pub use cut::first_line;
 pub use statement::Comparison;
 pub use statement::Numbers;
 pub use statement::Problem;

@@ -135,7 +135,7 @@ module _ (count : ℕ) (rows : List Constraint) where
 
 -- ---- the weights as they are added up
 
-terms-sum : (s : ℤ) (ws us : List ℤ) (v : ℤ) → Within s → add-terms s ws us ≡ Some v → (v ≡ s +ℤ dot ws us) × Within v
+pub terms-sum : (s : ℤ) (ws us : List ℤ) (v : ℤ) → Within s → add-terms s ws us ≡ Some v → (v ≡ s +ℤ dot ws us) × Within v
 terms-sum s [] us v h e = let z : s ≡ v = cc in (omega (arith, linear), subst Within z h)
 terms-sum s (w ∷ ws) [] v h e = let z : s ≡ v = cc in (omega (arith, linear), subst Within z h)
 terms-sum s (w ∷ ws) (u ∷ us) v h e = by (near (w *ℤ u) && near (s +ℤ w *ℤ u)) refl e (terms-sum (s +ℤ w *ℤ u) ws us v)

@@ -1,5 +1,8 @@
 // The layer that substitutes equations away, over any engine. It sees the crates `engine` and `integers`.
+
 pub mod kept;
+pub mod levels;
+pub mod lifting;
 pub mod rightness;
 
 pub use kept::Kept;
