@@ -1,11 +1,10 @@
--- What holds of all elements of lists that are joined, mapped, filtered or paired. Assumes nothing.
+-- What holds of all elements of lists that are filtered or paired, and of the best of them. Assumes nothing.
 use mathlib.Core.Path.{_≡_, refl, sym, _∙_}
-use mathlib.Core.List.{List, [], _∷_, _++_, map}
+use mathlib.Core.List.{List, [], _∷_}
 use mathlib.Core.Bool.{Bool, true, false, cond}
 use Rattle.std.specs.shelf.Lists.{All, kept-by}
 use Rattle.std.specs.shelf.Bests.{best-of}
-use Rattle.std.specs.declared.option.Option.the-variants.{Some, None}
-use Rattle.std.proofs.shelf.Tests.{false≢true, true≢false}
+use Rattle.std.proofs.shelf.Tests.{false≢true}
 
 pub both : {X : Type 0} (P Q : X → Type 0) (xs : List X) → All P xs → All Q xs → All (λ x. P x × Q x) xs
 both P Q [] p q = tt
@@ -14,14 +13,6 @@ both P Q (x ∷ xs) p q = ((p .0, q .0), both P Q xs (p .1) (q .1))
 pub all-is : {X : Type 0} (P : X → Type 0) → ((x : X) → P x) → (xs : List X) → All P xs
 all-is P h [] = tt
 all-is P h (x ∷ xs) = (h x, all-is P h xs)
-
-pub unmap : {X Y : Type 0} (P : Y → Type 0) (f : X → Y) (xs : List X) → All P (map f xs) → All (λ x. P (f x)) xs
-unmap P f [] p = tt
-unmap P f (x ∷ xs) p = (p .0, unmap P f xs (p .1))
-
-pub unjoin : {X : Type 0} (P : X → Type 0) (xs ys : List X) → All P (xs ++ ys) → All P xs × All P ys
-unjoin P [] ys p = (tt, p)
-unjoin P (x ∷ xs) ys p = let h = unjoin P xs ys (p .1) in ((p .0, h .0), h .1)
 
 -- what a filter keeps, back to what it was kept from
 pub unkept : {X : Type 0} (P : X → Type 0) (test : X → Bool) (xs : List X) → All P (kept-by test xs) → All (λ x. test x ≡ true → P x) xs
@@ -40,11 +31,3 @@ best-in {X} P better x (y ∷ ys) h k = best-in P better (cond (better y x) y x)
     by : (b : Bool) → P (cond b y x)
     by true = k .0
     by false = h
-
--- a test that gives something
-pub cond-some : {X : Type 0} (b : Bool) (x y : X) → cond b (Some x) None ≡ Some y → (b ≡ true) × (x ≡ y)
-cond-some true x y e = (refl, cc)
-cond-some false x y e = absurd (none-some y e)
-  where
-    none-some : {X : Type 0} (y : X) → None ≡ Some y → ⊥
-    none-some y e = let z : _≡_ {A = Bool} true false = cc in true≢false z

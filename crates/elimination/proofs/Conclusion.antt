@@ -16,7 +16,7 @@ use Rattle.engine.specs.Verdicts.{Verdict, Verdict.preset, Verdict.clash, Verdi
 use Rattle.engine.specs.States.{Says}
 use Rattle.elimination.specs.Table.{Line, all-eliminated}
 use Rattle.elimination.specs.Working.{first-equation, is-equation, carried, concluded, worked-out, elimination-verdict}
-use Rattle.elimination.proofs.Setting.{none-some}
+use Rattle.engine.proofs.Alls.{none-some}
 
 some-same : {x y : ℕ} → _≡_ {A = Option ℕ} (Some x) (Some y) → x ≡ y
 some-same e = cc

@@ -25,7 +25,7 @@ use Rattle.engine.proofs.Fits.{zero-within}
 use Rattle.engine.proofs.Reducing.{shared-above, quotient-above, restored, reduced-least}
 use Rattle.elimination.specs.Table.{Line, coefficient, isPositive, isNegative, size, near, all-near}
 use Rattle.elimination.specs.Levels.{Levels, Limit, remaining, divided, least}
-use Rattle.elimination.proofs.Alls.{cond-some}
+use Rattle.engine.proofs.Alls.{cond-some}
 use Rattle.elimination.proofs.Unders.{Under, Held, Across, under-same, under-times, under-cancel}
 use Rattle.elimination.proofs.Blending.{positive-is, negative-is}
 

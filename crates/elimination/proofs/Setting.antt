@@ -15,15 +15,13 @@ use Rattle.std.proofs.shelf.Tests.{true≢false, and-parts, and-from, cases-boo
 use Rattle.std.proofs.shelf.Elements.{all-weaker, kept-by-passes}
 use Rattle.elimination.specs.Table.{Line, coefficient, stands, isPositive, isNegative, uppers, lowers, size, combined, pairs, set-aside}
 use Rattle.elimination.specs.Levels.{Levels, Limit, remaining, upper-limit, lower-limit, also, limits, better-upper, better-lower, first-best, value, with-level, placed, chosen}
-use Rattle.elimination.proofs.Alls.{both, unmap, unkept}
+use Rattle.engine.proofs.Alls.{unmap, none-some}
+use Rattle.elimination.proofs.Alls.{both, unkept}
 use Rattle.elimination.proofs.Unders.{Held, Across, cross-left, cross-right}
 use Rattle.elimination.proofs.Between.{Lowered, lowered, Proper, Above, Below, Room, Between, between}
 use Rattle.elimination.proofs.Blending.{positive-is, negative-is, zero-is, combined-room}
 use Rattle.elimination.proofs.Placing.{raised, held-free, held-upper, held-lower, Leveled, leveled, leveled-held}
 use Rattle.elimination.proofs.Steps.{Upper, Lower, sum-of, sums-of, un-pairs, stands-still}
-
-pub none-some : {A : Type 0} (x : A) → None ≡ Some x → ⊥
-none-some x e = let z : _≡_ {A = Bool} true false = cc in true≢false z
 
 -- ---- the limits of lines
 

@@ -37,7 +37,8 @@ use Rattle.elimination.specs.Working.{is-equation, is-strict, first-equation, 
 use Rattle.elimination.specs.Sound.{Sound}
 use Rattle.elimination.proofs.Alls.{both, best-in}
 use Rattle.elimination.proofs.Unders.{Under, Held}
-use Rattle.elimination.proofs.Setting.{none-some, Met}
+use Rattle.engine.proofs.Alls.{none-some}
+use Rattle.elimination.proofs.Setting.{Met}
 use Rattle.elimination.proofs.Tracing.{NotNegative, Kept, zeros-at}
 use Rattle.elimination.proofs.Stages.{Stages, stages, stages-kept, Good, back}
 

@@ -1,20 +1,20 @@
 // The engine that works by Fourier-Motzkin elimination, in a lent table of carried rows. It sees the crates `engine` and `integers`.
-pub mod bests;
+mod bests;
 pub mod cell;
-pub mod choosing;
+mod choosing;
 pub mod engine;
-pub mod filling;
-pub mod levels;
-pub mod limit;
-pub mod limits;
-pub mod pairing;
-pub mod raising;
+mod filling;
+mod levels;
+mod limit;
+mod limits;
+mod pairing;
+mod raising;
 pub mod rightness;
 pub mod table;
 #[cfg(test)]
 mod tests;
-pub mod tighter;
-pub mod values;
+mod tighter;
+mod values;
 
 pub use cell::Cell;
 pub use engine::Elimination;
