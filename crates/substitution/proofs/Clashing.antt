@@ -54,7 +54,7 @@ clash-of ws rows l up w c f = record {
 
 -- ---- an equation without coefficients whose side is not 0
 
-opposite-within : (ws : List ℤ) → EachWithin ws → EachWithin (scale (negsuc 0) ws)
+pub opposite-within : (ws : List ℤ) → EachWithin ws → EachWithin (scale (negsuc 0) ws)
 opposite-within ws w k = subst Within (sym (scale-at (negsuc 0) ws k)) (omega (arith, abs-mul (negsuc 0) (getD ws k (pos 0)), w k))
 
 module _ (count : ℕ) (rows : List Constraint) (short : length rows ≤ most-rows) where

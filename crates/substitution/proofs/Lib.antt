@@ -6,3 +6,9 @@ pub mod Soundness
 pub mod Latest
 pub mod Terms
 pub mod Lifts
+pub mod Places
+pub mod Cancels
+pub mod Listed
+pub mod Turns
+pub mod Held
+pub mod Looks

@@ -3,3 +3,4 @@ pub mod Lifting
 pub mod Working
 pub mod Sound
 pub mod Holding
+pub mod Outcomes
