@@ -148,9 +148,9 @@ def main(top):
     OWN = set(os.listdir(os.path.join(top, "crates")))
     table = declared(top)
     for path in files(top):
-        if path.endswith(".antt") and "/specs/" in path:
+        if path.endswith(".antt"):
             with open(path, encoding="utf-8") as f:
-                for m in re.finditer(r"(?m)^  +pub ([^\s(){}.;,]+) :", f.read()):
+                for m in re.finditer(r"(?m)^ +(?:pub )?([^\s(){}.;,]+) :", f.read()):
                     FIELDS.add(m[1])
     said = set()
     turned = sum(turn_file(path, table, said) for path in files(top))

@@ -1,5 +1,7 @@
 // The calls that decide a plan, over any engine: Ask and Blame, and runs of commands. It sees the crates `engine`, `integers`, `plans` and
 // `rows`, and of an engine nothing but its interface.
+#![tactic(auto)]
+
 mod asking;
 mod blaming;
 pub mod command;

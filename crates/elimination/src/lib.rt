@@ -1,4 +1,6 @@
 // The engine that works by Fourier-Motzkin elimination, in a lent table of carried rows. It sees the crates `engine` and `integers`.
+#![tactic(auto)]
+
 mod bests;
 pub mod cell;
 mod choosing;

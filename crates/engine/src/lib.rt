@@ -1,5 +1,7 @@
 // The interface of an engine by its meaning, the refusals and faults, and the state that our engines share. It sees the crates `rows` and
 // `integers`, and no engine.
+#![tactic(auto)]
+
 pub mod answer;
 mod deciding;
 pub mod fault;

@@ -20,7 +20,7 @@ pub trait Better {
 
 // The place of the best, the first among equals; none where the list is empty.
 pub fn first_best<T: Better>(items: &[T]) -> Option<usize>
-    ensures { MatchOption result (length items.now ≡ 0) (λ b. FirstBest not_worse items.now b) }
+    ensures { MatchOption result (length items.now ≡ 0) (λ b. FirstBest T.not_worse items.now b) }
 {
     if items.is_empty() {
         return None;

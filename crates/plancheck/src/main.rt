@@ -1,4 +1,6 @@
 // Reads a plan with claimed answers on standard input and prints, line by line, whether they hold. It sees no engine's working.
+#![tactic(auto)]
+
 mod claims;
 mod complaint;
 mod edits;

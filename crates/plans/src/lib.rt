@@ -1,4 +1,6 @@
 // The plan of a desk and the calls that edit it. It sees what rows and refusals are, and no engine's working.
+#![tactic(auto)]
+
 pub mod kinds;
 pub mod list;
 pub mod plan;

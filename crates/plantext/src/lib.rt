@@ -1,4 +1,6 @@
 // The readable text of a plan and of claimed answers: a text's bytes to lines, a line's bytes to words, words to a statement. It sees only the standard library.
+#![tactic(auto)]
+
 pub mod cut;
 pub mod spelling;
 pub mod statement;

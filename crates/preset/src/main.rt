@@ -1,4 +1,6 @@
 // The preset box as a program: the bytes of commands on standard input, a line for each reply on standard output.
+#![tactic(auto)]
+
 ghost use Rattle.std.specs.Prelude.{◌≤◌, length, IfOk};
 
 use console::{Command, Reply};

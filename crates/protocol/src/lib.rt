@@ -1,4 +1,6 @@
 // The bytes of commands, and the lines of replies. It sees the types `Command` and `Reply` of the crate `console`, and no plan and no engine.
+#![tactic(auto)]
+
 pub mod bytes;
 pub mod line;
 pub mod lines;

@@ -1,4 +1,6 @@
 // What rows, presets and clashes are, checkers of both kinds of answer, and the arithmetic of carried rows. It sees the crate `integers`.
+#![tactic(auto)]
+
 pub mod bounds;
 pub mod carried;
 pub mod clashes;

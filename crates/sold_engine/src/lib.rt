@@ -1,5 +1,7 @@
 // The engine as it is sold, substitution over elimination: what its verdict is, and that small plans are never too large for it.
 // It sees the crates `elimination`, `engine`, `integers`, `rows` and `substitution`.
+#![tactic(auto)]
+
 pub mod engine;
 pub mod samples;
 pub mod small;

@@ -1,4 +1,6 @@
 // The layer that substitutes equations away, over any engine. It sees the crates `engine` and `integers`.
+#![tactic(auto)]
+
 mod below;
 pub mod engine;
 mod filling;

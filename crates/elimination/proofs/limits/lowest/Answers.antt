@@ -49,7 +49,7 @@ returns-in-default-narrow c =
     let k = known (goal.at.returns-in-default-narrow c).In-Some in
     let m = c.in-Some.fraction.numerator in
     let o = c.in-Some.fraction.denominator in
-    let fm = k.fits-m in
+    let fm = k.fits_m in
     refused c.args.numerator c.args.denominator c.args.strict m o k.numerator k.denominator (and_left (near m) (near o) (none_narrowed m (simp to_z-of_z at c.in-default-narrow.ensures)))
 
 pub returns-in-default-narrow-2 : goal.returns-in-default-narrow-2
@@ -57,7 +57,7 @@ returns-in-default-narrow-2 c =
     let k = known (goal.at.returns-in-default-narrow-2 c).In-Some in
     let m = c.in-Some.fraction.numerator in
     let o = c.in-Some.fraction.denominator in
-    let fo = k.fits-o in
+    let fo = k.fits_o in
     refused c.args.numerator c.args.denominator c.args.strict m o k.numerator k.denominator (and_right (near m) (near o) (none_narrowed o (simp to_z-of_z at c.in-default-narrow-2.ensures)))
 
 -- the two numbers in the narrow type
@@ -89,12 +89,12 @@ invariant-of-result c =
     let m = c.in-Some.fraction.numerator in
     let o = c.in-Some.fraction.denominator in
     let n = narrow c in
-    let fa = n.fits-a in
-    let fb = n.fits-b in
-    let wm : Within m = near_within m n.near-m in
-    let wo : Within o = near_within o n.near-o in
+    let fa = n.fits_a in
+    let fb = n.fits_b in
+    let wm : Within m = near_within m n.near_m in
+    let wo : Within o = near_within o n.near_o in
     let po : pos 0 <ℤ o = c.in-Some.fraction.positive in
-    let ob : nat_abs c.in-Some-narrow-2.below ≡ nat_abs o = ap nat_abs n.is-o in
+    let ob : nat_abs c.in-Some-narrow-2.below ≡ nat_abs o = ap nat_abs n.is_o in
     let size : 0 < nat_abs o = omega (arith, ints) in
     simp to_z-of_z (subst Within (sym n.is_m) wm, (omega (arith, ob, size), (omega (arith, ob, wo), tt)))
 
@@ -102,7 +102,7 @@ pub returns : goal.returns
 returns c =
     let k = known (goal.at.returns c).In-Some in
     let n = narrow (goal.at.returns c).In-Some-narrow-2 in
-    let ea = to_z-of_z w32 c.in-Some-narrow.above n.fits-a ∙ n.is_m in
-    let eb = to_z-of_z w32 c.in-Some-narrow-2.below n.fits-b ∙ n.is-o in
+    let ea = to_z-of_z w32 c.in-Some-narrow.above n.fits_a ∙ n.is_m in
+    let eb = to_z-of_z w32 c.in-Some-narrow-2.below n.fits_b ∙ n.is_o in
     (λ i. Some (record { numerator = ea i; denominator = nat_abs (eb i); strict = c.args.strict }))
-    ∙ taken c.args.numerator c.args.denominator c.args.strict c.in-Some.fraction.numerator c.in-Some.fraction.denominator k.numerator k.denominator n.near-m n.near-o
+    ∙ taken c.args.numerator c.args.denominator c.args.strict c.in-Some.fraction.numerator c.in-Some.fraction.denominator k.numerator k.denominator n.near_m n.near_o

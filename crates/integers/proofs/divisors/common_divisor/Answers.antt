@@ -11,7 +11,7 @@ unfolding gcd_all
 loop-v-preserved c =
     let v = get_or c.args.values.now c.loop-v.v-index (pos 0) in
     let fits : SFits w64 v = search rules in
-    let size = simp to_z-of_z at c.unsigned-abs.ensures.value in
+    let size = simp to_z-of_z at c.unsigned_abs.ensures.value in
     let rest = drop (c.loop-v.v-index + 1) c.args.values.now in
     ap (λ (g : ℕ). gcd_all g rest) (c.gcd-g.ensures.value ∙ ap (gcd_of c.loop-v.g) size)
     ∙ sym (at_drop_more (gcd_all c.loop-v.g) c.args.values.now c.loop-v.v-index (pos 0) c.loop-v-test.true)

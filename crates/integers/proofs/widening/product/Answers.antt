@@ -10,8 +10,8 @@ size a b f g =
     let m : nat_abs (a *ℤ b) ≤ 2 ^ 31 * 2 ^ 31 = mul_near a b (2 ^ 31) (2 ^ 31) p q in
     omega (arith, ints)
 
-pub overflow-mul-result : goal.overflow-mul-result
-overflow-mul-result c =
+pub overflow_mul-result : goal.overflow_mul-result
+overflow_mul-result c =
     let a = c.args.a in
     let b = c.args.b in
     let fa : SFits w32 a = c.ranges.a in

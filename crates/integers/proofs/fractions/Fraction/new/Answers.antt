@@ -26,9 +26,9 @@ known c =
     let g = c.gcd-shared.result in
     let fn : SFits w64 n = c.ranges.numerator in
     let fd : SFits w64 d = c.ranges.denominator in
-    let an : c.unsigned-abs.result ≡ nat_abs n = simp to_z-of_z at c.unsigned-abs.ensures.value in
-    let ad : c.unsigned-abs-2.result ≡ nat_abs d = simp to_z-of_z at c.unsigned-abs-2.ensures.value in
-    let is : g ≡ gcd_of (nat_abs n) (nat_abs d) = c.gcd-shared.ensures.value ∙ ap (λ (x : ℕ). gcd_of x c.unsigned-abs-2.result) an ∙ ap (gcd_of (nat_abs n)) ad in
+    let an : c.unsigned_abs.result ≡ nat_abs n = simp to_z-of_z at c.unsigned_abs.ensures.value in
+    let ad : c.unsigned_abs-2.result ≡ nat_abs d = simp to_z-of_z at c.unsigned_abs-2.ensures.value in
+    let is : g ≡ gcd_of (nat_abs n) (nat_abs d) = c.gcd-shared.ensures.value ∙ ap (λ (x : ℕ). gcd_of x c.unsigned_abs-2.result) an ∙ ap (gcd_of (nat_abs n)) ad in
     let above : pos 0 <ℤ d = omega (arith, ints) in
     let terms : Divided n d (quot_z n (pos g)) (quot_z d (pos g)) g = rw is (divided n d above) in
     let fg : SFits w64 (pos g) = omega (arith, ints, terms.within) in
@@ -44,30 +44,30 @@ known c =
       above = above;
     }
 
-pub overflow-cast-shared : goal.overflow-cast-shared
-overflow-cast-shared c = (known c).fits-g
+pub overflow_cast-shared : goal.overflow_cast-shared
+overflow_cast-shared c = (known c).fits_g
 
-pub nonzero-div-result : goal.nonzero-div-result
-nonzero-div-result c =
-    let k = known c in let above = k.terms.above in let fits = k.fits-g in
+pub nonzero_div-result : goal.nonzero_div-result
+nonzero_div-result c =
+    let k = known c in let above = k.terms.above in let fits = k.fits_g in
     search (arith, ints, quot_fits)
 
-pub nonzero-div-result-2 : goal.nonzero-div-result-2
-nonzero-div-result-2 c =
-    let k = known c in let above = k.terms.above in let fits = k.fits-g in
+pub nonzero_div-result-2 : goal.nonzero_div-result-2
+nonzero_div-result-2 c =
+    let k = known c in let above = k.terms.above in let fits = k.fits_g in
     search (arith, ints, quot_fits)
 
-pub invariant-of-result : goal.invariant-of-result
-invariant-of-result c =
-    let k = known c in let fn = k.fits-n in let fd = k.fits-d in let fm = k.fits-m in let fe = k.fits-e in
-    simp (to_z-of_z, k.read-g) (k.terms.positive, (k.terms.lowest, tt))
+pub invariant_of-result : goal.invariant_of-result
+invariant_of-result c =
+    let k = known c in let fn = k.fits_n in let fd = k.fits_d in let fm = k.fits_m in let fe = k.fits_e in
+    record { positive = simp (to_z-of_z, k.read_g) k.terms.positive; lowest = simp (to_z-of_z, k.read_g) k.terms.lowest }
 
 pub returns : goal.returns
 returns c =
     let n = c.args.numerator in
     let d = c.args.denominator in
-    let k = known (goal.at.returns c).After-gcd-shared in let fn = k.fits-n in let fd = k.fits-d in let fm = k.fits-m in let fe = k.fits-e in
+    let k = known (goal.at.returns c).After-gcd-shared in let fn = k.fits_n in let fd = k.fits_d in let fm = k.fits_m in let fe = k.fits_e in
     record {
-      value = (k.above, simp (to_z-of_z, k.read-g) (ap (λ (x : ℕ). quot_z n (pos x)) k.is), simp (to_z-of_z, k.read-g) (ap (λ (x : ℕ). quot_z d (pos x)) k.is));
-      reduced = simp (to_z-of_z, k.read-g) (divided_reduced n d (quot_z n (pos c.gcd-shared.result)) (quot_z d (pos c.gcd-shared.result)) c.gcd-shared.result k.terms);
+      value = (k.above, simp (to_z-of_z, k.read_g) (ap (λ (x : ℕ). quot_z n (pos x)) k.is), simp (to_z-of_z, k.read_g) (ap (λ (x : ℕ). quot_z d (pos x)) k.is));
+      reduced = simp (to_z-of_z, k.read_g) (divided_reduced n d (quot_z n (pos c.gcd-shared.result)) (quot_z d (pos c.gcd-shared.result)) c.gcd-shared.result k.terms);
     }
