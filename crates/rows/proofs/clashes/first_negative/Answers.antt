@@ -13,8 +13,8 @@ use Rattle.rows.proofs.clashes.first_negative.Goals as goal
 tested : (w : Weights) (i : ℕ) → to_z w32 (of_z w32 (get_or w.values i (pos 0))) ≡ get_or w.values i (pos 0)
 tested w i = to_z-of_z w32 (get_or w.values i (pos 0)) (fits_32 (get_or w.values i (pos 0)) (w.within i))
 
-pub returns-then-not-may-weigh : goal.returns-then-not-may-weigh
-returns-then-not-may-weigh c =
+pub returns-then-not-may_weigh : goal.returns-then-not-may_weigh
+returns-then-not-may_weigh c =
     let w = c.args.weights.now in
     let i = c.loop-i.i in
     let r = c.index-rows-i.result in
@@ -23,7 +23,7 @@ returns-then-not-may-weigh c =
     let u : length (used w rs) ≡ length rs = length-take-le (length rs) w.values (omega (arith, w.places, c.requires)) in
     negative_row (used w rs) c.args.rows.now i r (omega arith) c.loop-i-test.true c.index-rows-i.is
     (subst (λ (v : List ℤ). Weighed v (take i rs)) (sym (take-take i (length rs) w.values (omega arith))) c.loop-i.invariant)
-    (λ p. not_from_Decides c.may-weigh.result c.may-weigh.ensures c.if-not-may-weigh.true
+    (λ p. not_from_Decides c.may_weigh.result c.may_weigh.ensures c.if-not-may_weigh.true
     (subst (λ (z : ℤ). Weighs z r.kind) (get_or-take (length rs) w.values i (pos 0) (omega arith) ∙ sym (tested w i)) p))
 
 pub loop-i-preserved : goal.loop-i-preserved
@@ -31,7 +31,7 @@ loop-i-preserved c =
     let w = c.args.weights.now in
     let r = c.index-rows-i.result in
     weighed_row_more w.values c.args.rows.now c.loop-i.i r (omega (arith, w.places, c.requires)) c.loop-i-test.true c.index-rows-i.is c.loop-i.invariant
-    (subst (λ (z : ℤ). Weighs z r.kind) (tested w c.loop-i.i) (c.may-weigh.ensures.0 c.if-not-may-weigh.false))
+    (subst (λ (z : ℤ). Weighs z r.kind) (tested w c.loop-i.i) (c.may_weigh.ensures.0 c.if-not-may_weigh.false))
 
 pub returns : goal.returns
 returns c =

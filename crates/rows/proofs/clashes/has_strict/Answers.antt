@@ -9,20 +9,20 @@ use Rattle.rows.proofs.Fits.{fits_32}
 use Rattle.rows.proofs.Weighing.{strict_row, strictly_row_more, strictly_no_rows}
 use Rattle.rows.proofs.clashes.has_strict.Goals as goal
 
-pub returns-then-is-strict : goal.returns-then-is-strict
-returns-then-is-strict c =
+pub returns-then-is_strict : goal.returns-then-is_strict
+returns-then-is_strict c =
     let ws = c.args.weights.now.values in
     let fw = fits_32 (get_or ws c.loop-i.i (pos 0)) (c.args.weights.now.within c.loop-i.i) in
-    let d = simp (to_z-of_z, ← c.index-rows-i.is) at c.is-strict.ensures in
-    ((λ _. strict_row ws c.args.rows.now c.loop-i.i c.index-rows-i.result (omega (arith, c.args.weights.now.places, c.min-i-end.ensures)) (omega (arith, c.min-i-end.ensures)) c.index-rows-i.is (d.0 c.if-is-strict.true).0 (d.0 c.if-is-strict.true).1), λ _. refl)
+    let d = simp (to_z-of_z, ← c.index-rows-i.is) at c.is_strict.ensures in
+    ((λ _. strict_row ws c.args.rows.now c.loop-i.i c.index-rows-i.result (omega (arith, c.args.weights.now.places, c.min-i-end.ensures)) (omega (arith, c.min-i-end.ensures)) c.index-rows-i.is (d.0 c.if-is_strict.true).0 (d.0 c.if-is_strict.true).1), λ _. refl)
 
 pub loop-i-preserved : goal.loop-i-preserved
 loop-i-preserved c s =
     let ws = c.args.weights.now.values in
     let fw = fits_32 (get_or ws c.loop-i.i (pos 0)) (c.args.weights.now.within c.loop-i.i) in
-    let d = simp (to_z-of_z, ← c.index-rows-i.is) at c.is-strict.ensures in
+    let d = simp (to_z-of_z, ← c.index-rows-i.is) at c.is_strict.ensures in
     strictly_row_more ws c.args.rows.now c.loop-i.i c.index-rows-i.result (omega (arith, c.args.weights.now.places, c.min-i-end.ensures)) (omega (arith, c.min-i-end.ensures)) c.index-rows-i.is
-    (not_from_Decides c.is-strict.result d c.if-is-strict.false) (c.loop-i.invariant s)
+    (not_from_Decides c.is_strict.result d c.if-is_strict.false) (c.loop-i.invariant s)
 
 pub returns : goal.returns
 returns c =

@@ -22,16 +22,16 @@ length_numbers : (part : Part) (rows : List Row) → length (numbers part (const
 length_numbers part rows = length-map (constraints rows) (number part) ∙ length-map rows constraint
 
 -- the product of one turn
-turn : (c : goal.After-product) → c.product.result ≡ get_or c.args.weights.now.values c.loop-i.i (pos 0) *ℤ c.part-of.result
+turn : (c : goal.After-product) → c.product.result ≡ get_or c.args.weights.now.values c.loop-i.i (pos 0) *ℤ c.part_of.result
 turn c =
     let fx = fits_32 (get_or c.args.weights.now.values c.loop-i.i (pos 0)) (c.args.weights.now.within c.loop-i.i) in
-    let fy : SFits w32 c.part-of.result = search rules in
+    let fy : SFits w32 c.part_of.result = search rules in
     simp to_z-of_z at c.product.ensures
 
 near : (c : goal.After-product) → nat_abs (c.loop-i.sum +ℤ c.product.result) ≤ (c.loop-i.i + 1) * (largest * largest)
 near c =
     let i : nat_abs c.loop-i.sum ≤ c.loop-i.i * (largest * largest) = rw c.loop-i.sum-is at c.loop-i.invariant.1 in
-    rw (turn c) (one_more c.loop-i.sum (get_or c.args.weights.now.values c.loop-i.i (pos 0)) c.part-of.result c.loop-i.i i (c.args.weights.now.within c.loop-i.i) c.part-of.ensures.within)
+    rw (turn c) (one_more c.loop-i.sum (get_or c.args.weights.now.values c.loop-i.i (pos 0)) c.part_of.result c.loop-i.i i (c.args.weights.now.within c.loop-i.i) c.part_of.ensures.within)
 
 short : (c : goal.After-product) → (c.loop-i.i < 16) × (c.loop-i.i < length c.args.rows.now)
 short c = omega (arith, c.min-i-end.ensures)
@@ -39,8 +39,8 @@ short c = omega (arith, c.min-i-end.ensures)
 fits : (c : goal.After-product) → SFits w128 (c.loop-i.sum +ℤ c.product.result)
 fits c = fits_128 (c.loop-i.sum +ℤ c.product.result) (omega (arith, near c, short c))
 
-pub overflow-add-sum : goal.overflow-add-sum
-overflow-add-sum c =
+pub overflow_add-sum : goal.overflow_add-sum
+overflow_add-sum c =
     let fr : SFits w64 c.product.result = search rules in
     let fw : SFits w128 c.product.result = omega (arith, ints) in
     simp (to_z-of_z, c.loop-i.sum-is) (fits c)
@@ -56,7 +56,7 @@ loop-i-preserved c =
     let m = rest_more c.loop-i.sum ws ns c.loop-i.i (omega (arith, c.args.weights.now.places, short c)) (omega (arith, n, short c)) in
     let i : rest c.loop-i.sum ws ns c.loop-i.i ≡ dot ws ns = rw c.loop-i.sum-is at c.loop-i.invariant.0 in
     let t : c.product.result ≡ get_or ws c.loop-i.i (pos 0) *ℤ get_or ns c.loop-i.i (pos 0) =
-    turn c ∙ ap (λ (z : ℤ). get_or ws c.loop-i.i (pos 0) *ℤ z) (c.part-of.ensures.value ∙ sym (numbers_at c.args.part c.args.rows.now c.loop-i.i c.index-rows-i.result (short c).1 c.index-rows-i.is)) in
+    turn c ∙ ap (λ (z : ℤ). get_or ws c.loop-i.i (pos 0) *ℤ z) (c.part_of.ensures.value ∙ sym (numbers_at c.args.part c.args.rows.now c.loop-i.i c.index-rows-i.result (short c).1 c.index-rows-i.is)) in
     simp (to_z-of_z, c.loop-i.sum-is) ((rw t (m ∙ i)), near c)
 
 pub returns : goal.returns

@@ -9,8 +9,8 @@ module _ (m a n b p q : ℤ) (em : p ≡ m *ℤ a) (en : q ≡ n *ℤ b) (f : SF
   sum_fits : SFits w64 (p +ℤ q)
   sum_fits = rw (em, en) f
 
-pub overflow-add-product : goal.overflow-add-product
-overflow-add-product c =
+pub overflow_add-product : goal.overflow_add-product
+overflow_add-product c =
     let fm : SFits w32 c.args.m = c.ranges.m in
     let fa : SFits w32 c.args.a = c.ranges.a in
     let fn : SFits w32 c.args.n = c.ranges.n in

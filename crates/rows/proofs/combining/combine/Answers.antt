@@ -32,15 +32,15 @@ returns-then-not-blend c =
     no_coefficients (combination c.args.m (numbers_of a) c.args.n (numbers_of b))
     (sym c.if-not-blend.true ∙ c.blend.ensures.test ∙ ap all_near (same_factors c.args.m c.args.n c.ranges.m c.ranges.n a.coefficients b.coefficients))
 
-pub returns-in-default : goal.returns-in-default
-returns-in-default c =
+pub returns-in_default : goal.returns-in_default
+returns-in_default c =
     let a = c.args.a.now in
     let b = c.args.b.now in
     let fm : SFits w32 c.args.m = c.ranges.m in
     let fn : SFits w32 c.args.n = c.ranges.n in
     let fa = fits_32 a.side a.bounded in
     let fb = fits_32 b.side b.bounded in
-    no_side (combination c.args.m (numbers_of a) c.args.n (numbers_of b)) (none_narrowed (c.args.m *ℤ a.side +ℤ c.args.n *ℤ b.side) (simp to_z-of_z at c.in-default.ensures))
+    no_side (combination c.args.m (numbers_of a) c.args.n (numbers_of b)) (none_narrowed (c.args.m *ℤ a.side +ℤ c.args.n *ℤ b.side) (simp to_z-of_z at c.in_default.ensures))
 
 pub returns-then-not-blend-2 : goal.returns-then-not-blend-2
 returns-then-not-blend-2 c =
@@ -72,26 +72,20 @@ module _ (m n a b z : ℤ) (fm : SFits w32 m) (fn : SFits w32 n) (wa : Within a)
       let fb = fits_32 b wb in
       some_narrowed (m *ℤ a +ℤ n *ℤ b) z (simp to_z-of_z at e)
 
-pub invariant-of-result : goal.invariant-of-result
-invariant-of-result c =
+pub invariant_of-result : goal.invariant_of-result
+invariant_of-result c =
     let a = c.args.a.now in
     let b = c.args.b.now in
     let m = c.args.m in
     let n = c.args.n in
     let fz : SFits w32 c.in-Some.side = search rules in
-    let s = side_of m n a.side b.side c.in-Some.side c.ranges.m c.ranges.n a.bounded b.bounded c.in-Some.ensures in (
-      written_length m n c.ranges.m c.ranges.n a.coefficients b.coefficients c.blend.new.out c.blend.result c.blend.ensures.test c.blend.ensures.value c.if-not-blend.false (a.places ∙ sym b.places) ∙ a.places,
-      (
-        written_within m n c.ranges.m c.ranges.n a.coefficients b.coefficients c.blend.new.out c.blend.result c.blend.ensures.test c.blend.ensures.value c.if-not-blend.false,
-        (
-          simp to_z-of_z (near_within c.in-Some.side (ap near s.1 ∙ s.0)),
-          (
-            written_length m n c.ranges.m c.ranges.n a.weights b.weights c.blend-2.new.out c.blend-2.result c.blend-2.ensures.test c.blend-2.ensures.value c.if-not-blend-2.false (a.loads ∙ sym b.loads) ∙ a.loads,
-            (written_within m n c.ranges.m c.ranges.n a.weights b.weights c.blend-2.new.out c.blend-2.result c.blend-2.ensures.test c.blend-2.ensures.value c.if-not-blend-2.false, tt),
-          ),
-        ),
-      ),
-    )
+    let s = side_of m n a.side b.side c.in-Some.side c.ranges.m c.ranges.n a.bounded b.bounded c.in-Some.ensures in record {
+      places = written_length m n c.ranges.m c.ranges.n a.coefficients b.coefficients c.blend.new.out c.blend.result c.blend.ensures.test c.blend.ensures.value c.if-not-blend.false (a.places ∙ sym b.places) ∙ a.places;
+      within = written_within m n c.ranges.m c.ranges.n a.coefficients b.coefficients c.blend.new.out c.blend.result c.blend.ensures.test c.blend.ensures.value c.if-not-blend.false;
+      bounded = simp to_z-of_z (near_within c.in-Some.side (ap near s.1 ∙ s.0));
+      loads = written_length m n c.ranges.m c.ranges.n a.weights b.weights c.blend-2.new.out c.blend-2.result c.blend-2.ensures.test c.blend-2.ensures.value c.if-not-blend-2.false (a.loads ∙ sym b.loads) ∙ a.loads;
+      light = written_within m n c.ranges.m c.ranges.n a.weights b.weights c.blend-2.new.out c.blend-2.result c.blend-2.ensures.test c.blend-2.ensures.value c.if-not-blend-2.false;
+    }
 
 pub returns : goal.returns
 returns c =

@@ -5,22 +5,16 @@ use Rattle.rows.specs.Limits.{most_rows, EachWithin, Within}
 use Rattle.rows.proofs.Fits.{fits_32, within_set, zeros_within}
 use Rattle.rows.proofs.carried.Carried.listed.Goals as goal
 
-pub invariant-of-result : goal.invariant-of-result
-invariant-of-result c =
+pub invariant_of-result : goal.invariant_of-result
+invariant_of-result c =
     let r = c.args.row.now in
-    let f = fits_32 r.side r.bounded in (
-      r.places,
-      (
-        r.within,
-        (
-          simp to_z-of_z r.bounded,
-          (
-            ap length c.unit-weights.ensures ∙ length-set (replicate most_rows (pos 0)) c.args.place (pos 1),
-            (subst EachWithin (sym c.unit-weights.ensures) (within_set (replicate most_rows (pos 0)) c.args.place (pos 1) (zeros_within most_rows) (lit≤ tt)), tt),
-          ),
-        ),
-      ),
-    )
+    let f = fits_32 r.side r.bounded in record {
+      places = r.places;
+      within = r.within;
+      bounded = simp to_z-of_z r.bounded;
+      loads = ap length c.unit-weights.ensures ∙ length-set (replicate most_rows (pos 0)) c.args.place (pos 1);
+      light = subst EachWithin (sym c.unit-weights.ensures) (within_set (replicate most_rows (pos 0)) c.args.place (pos 1) (zeros_within most_rows) (lit≤ tt));
+    }
 
 pub returns : goal.returns
 returns c =

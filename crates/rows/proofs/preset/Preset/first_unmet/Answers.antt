@@ -1,6 +1,7 @@
 use Rattle.std.proofs.Common.{◌≡◌, List, length, subst, arith}
 use Rattle.std.proofs.lemmas.List.{length-map, take_all}
 use Rattle.std.proofs.lemmas.Bool.Decides.{not_from_Decides}
+use Rattle.std.specs.List.{AllByRecursion as All}
 use Rattle.rows.specs.Rows.{Constraint, constraint, constraints, Meets, MeetsAll}
 use Rattle.rows.proofs.Firsts.{first_row, all_rows_more}
 use Rattle.rows.proofs.preset.Preset.first_unmet.Goals as goal
@@ -21,4 +22,4 @@ pub returns : goal.returns
 returns c =
     let n : length (constraints c.args.rows.now) ≡ length c.args.rows.now = length-map c.args.rows.now constraint in
     let P = Meets c.args.self.now.numerators c.args.self.now.denominator in
-    subst (Rattle.std.specs.List.All P) (take_all c.loop-i.i (constraints c.args.rows.now) (omega arith)) c.loop-i.invariant
+    subst (All P) (take_all c.loop-i.i (constraints c.args.rows.now) (omega arith)) c.loop-i.invariant

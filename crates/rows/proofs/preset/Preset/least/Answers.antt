@@ -37,29 +37,25 @@ module _ (ns : List ℤ) (d g : ℕ) (pd : 0 < d) (e : g ≡ gcd_all d ns) where
       let P : List ℤ → ℕ → Type 0 = λ zs x. Least zs (d / x) × Same zs (d / x) ns d in
       subst (λ (zs : List ℤ). P zs g) (sym o) (subst (λ (x : ℕ). P (divided x ns) x) (sym e) (reduced_least ns d pd, reduced_same ns d pd))
 
-pub nonzero-div-least : goal.nonzero-div-least
-nonzero-div-least c = above c.args.numerators.now c.args.denominator c.common-divisor-shared.result (omega arith) c.common-divisor-shared.ensures.value
+pub nonzero_div-least : goal.nonzero_div-least
+nonzero_div-least c = above c.args.numerators.now c.args.denominator c.common_divisor-shared.result (omega arith) c.common_divisor-shared.ensures.value
 
 pub divide-requires : goal.divide-requires
 divide-requires c = (
-  above c.args.numerators.now c.args.denominator c.common-divisor-shared.result (omega arith) c.common-divisor-shared.ensures.value,
+  above c.args.numerators.now c.args.denominator c.common_divisor-shared.result (omega arith) c.common_divisor-shared.ensures.value,
   c.told-numerators,
 )
 
-pub invariant-of-result : goal.invariant-of-result
-invariant-of-result c =
+pub invariant_of-result : goal.invariant_of-result
+invariant_of-result c =
     let ns = c.args.numerators.now in
-    let g = c.common-divisor-shared.result in
-    let o = c.divide.ensures.value c.if-not-divide.false in (
-      ap length o ∙ length-map ns (λ n. quot_z n (pos g)) ∙ c.told-numerators,
-      (
-        subst EachWithin (sym o) (all_near_each (divided g ns) (sym c.divide.ensures.test ∙ c.if-not-divide.false)),
-        (
-          quotient ns c.args.denominator g (omega arith) c.common-divisor-shared.ensures.value,
-          (c.if-least.false, tt),
-        ),
-      ),
-    )
+    let g = c.common_divisor-shared.result in
+    let o = c.divide.ensures.value c.if-not-divide.false in record {
+      places = ap length o ∙ length-map ns (λ n. quot_z n (pos g)) ∙ c.told-numerators;
+      within = subst EachWithin (sym o) (all_near_each (divided g ns) (sym c.divide.ensures.test ∙ c.if-not-divide.false));
+      positive = quotient ns c.args.denominator g (omega arith) c.common_divisor-shared.ensures.value;
+      bounded = c.if-least.false;
+    }
 
 pub returns-then-denominator-eq0 : goal.returns-then-denominator-eq0
 returns-then-denominator-eq0 c =
@@ -74,9 +70,9 @@ pub returns-then-least : goal.returns-then-least
 returns-then-least c =
     let ns = c.args.numerators.now in
     let d = c.args.denominator in
-    let g = c.common-divisor-shared.result in
+    let g = c.common_divisor-shared.result in
     record {
-      value = refused ns d g (omega arith) c.common-divisor-shared.ensures.value (and_right (all_near (divided g ns)) (near (pos (d / g))) (lt-leb (d / g) largest c.if-least.true));
+      value = refused ns d g (omega arith) c.common_divisor-shared.ensures.value (and_right (all_near (divided g ns)) (near (pos (d / g))) (lt-leb (d / g) largest c.if-least.true));
       lowest = tt;
     }
 
@@ -84,19 +80,19 @@ pub returns-then-not-divide : goal.returns-then-not-divide
 returns-then-not-divide c =
     let ns = c.args.numerators.now in
     let d = c.args.denominator in
-    let g = c.common-divisor-shared.result in
+    let g = c.common_divisor-shared.result in
     record {
-      value = refused ns d g (omega arith) c.common-divisor-shared.ensures.value (and_left (all_near (divided g ns)) (near (pos (d / g))) (sym c.divide.ensures.test ∙ c.if-not-divide.true));
+      value = refused ns d g (omega arith) c.common_divisor-shared.ensures.value (and_left (all_near (divided g ns)) (near (pos (d / g))) (sym c.divide.ensures.test ∙ c.if-not-divide.true));
       lowest = tt;
     }
 
 pub returns : goal.returns
 returns c =
     let ns = c.args.numerators.now in
-    let g = c.common-divisor-shared.result in
+    let g = c.common_divisor-shared.result in
     let pd : 0 < c.args.denominator = omega arith in
     let o = c.divide.ensures.value c.if-not-divide.false in
     record {
-      value = taken ns c.args.denominator g pd c.common-divisor-shared.ensures.value c.divide.new.out o (sym c.divide.ensures.test ∙ c.if-not-divide.false) c.if-least.false;
-      lowest = lowest ns c.args.denominator g pd c.common-divisor-shared.ensures.value c.divide.new.out o;
+      value = taken ns c.args.denominator g pd c.common_divisor-shared.ensures.value c.divide.new.out o (sym c.divide.ensures.test ∙ c.if-not-divide.false) c.if-least.false;
+      lowest = lowest ns c.args.denominator g pd c.common_divisor-shared.ensures.value c.divide.new.out o;
     }

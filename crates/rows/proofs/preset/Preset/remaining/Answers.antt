@@ -7,21 +7,21 @@ use Rattle.rows.proofs.preset.Preset.remaining.Goals as goal
 use Rattle.rows.proofs.preset.Preset.remaining.Goals.{After-sum}
 
 -- what the two calls give
-difference : (c : After-sum) → c.scaled-side.result -ℤ c.sum.result ≡ remaining (numbers_of c.args.carried.now) c.args.self.now.numerators c.args.self.now.denominator
+difference : (c : After-sum) → c.scaled_side.result -ℤ c.sum.result ≡ remaining (numbers_of c.args.carried.now) c.args.self.now.numerators c.args.self.now.denominator
 difference c =
     let f : SFits w32 c.args.carried.now.side = fits_32 c.args.carried.now.side c.args.carried.now.bounded in
-    let e = simp to_z-of_z at c.scaled-side.ensures in
+    let e = simp to_z-of_z at c.scaled_side.ensures in
     λ i. e i -ℤ c.sum.ensures i
 
-pub overflow-sub-result : goal.overflow-sub-result
-overflow-sub-result c =
-    let f : SFits w64 c.scaled-side.result = search rules in
+pub overflow_sub-result : goal.overflow_sub-result
+overflow_sub-result c =
+    let f : SFits w64 c.scaled_side.result = search rules in
     let g : SFits w64 c.sum.result = search rules in
     simp to_z-of_z (subst (SFits w64) (sym (difference c)) (remaining_fits c.args.self.now c.args.carried.now))
 
 pub returns : goal.returns
 returns c =
-    let f : SFits w64 c.scaled-side.result = search rules in
+    let f : SFits w64 c.scaled_side.result = search rules in
     let g : SFits w64 c.sum.result = search rules in
-    let h : SFits w64 (c.scaled-side.result -ℤ c.sum.result) = subst (SFits w64) (sym (difference c)) (remaining_fits c.args.self.now c.args.carried.now) in
+    let h : SFits w64 (c.scaled_side.result -ℤ c.sum.result) = subst (SFits w64) (sym (difference c)) (remaining_fits c.args.self.now c.args.carried.now) in
     simp to_z-of_z (record { value = difference c; size = subst (λ (z : ℤ). nat_abs z < 2 ^ 63) (sym (difference c)) (remaining_near c.args.self.now c.args.carried.now) })

@@ -4,8 +4,8 @@ use Rattle.rows.specs.Limits.{largest}
 use Rattle.rows.proofs.Fits.{fits_32, fits_64, product}
 use Rattle.rows.proofs.preset.Preset.scaled_side.Goals as goal
 
-pub overflow-mul-result : goal.overflow-mul-result
-overflow-mul-result c =
+pub overflow_mul-result : goal.overflow_mul-result
+overflow_mul-result c =
     let side = c.args.row.now.side in
     let d = c.args.self.now.denominator in
     let p : nat_abs (side *ℤ pos d) ≤ largest * largest = product side (pos d) c.args.row.now.bounded c.args.self.now.bounded in

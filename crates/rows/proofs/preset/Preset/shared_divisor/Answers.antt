@@ -22,5 +22,5 @@ returns c =
     let p = c.args.self.now in
     let e : c.loop-k.numerators ≡ p.numerators =
     sym (take_all c.loop-k.k c.loop-k.numerators (omega (arith, c.loop-k.invariant.0))) ∙ c.loop-k.invariant.1 ∙ take_all c.loop-k.k p.numerators (omega (arith, p.places)) in
-    let a : IsGcdAll p.denominator p.numerators c.common-divisor.result = subst (λ (zs : List ℤ). IsGcdAll p.denominator zs c.common-divisor.result) e c.common-divisor.ensures.greatest in
-    record { greatest = a; least = (least_from_one p.numerators p.denominator c.common-divisor.result a, one_from_least p.numerators p.denominator c.common-divisor.result a) }
+    let a : IsGcdAll p.denominator p.numerators c.common_divisor.result = subst (λ (zs : List ℤ). IsGcdAll p.denominator zs c.common_divisor.result) e c.common_divisor.ensures.greatest in
+    record { greatest = a; least = (least_from_one p.numerators p.denominator c.common_divisor.result a, one_from_least p.numerators p.denominator c.common_divisor.result a) }

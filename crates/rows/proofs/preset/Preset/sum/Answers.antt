@@ -21,8 +21,8 @@ near c =
 fits : (c : goal.After-product-sum) → SFits w64 (c.loop-k.sum +ℤ c.product-sum.result)
 fits c = fits_64 (c.loop-k.sum +ℤ c.product-sum.result) (omega (arith, near c))
 
-pub overflow-add-sum : goal.overflow-add-sum
-overflow-add-sum c =
+pub overflow_add-sum : goal.overflow_add-sum
+overflow_add-sum c =
     let fr : SFits w64 c.product-sum.result = search rules in
     simp (to_z-of_z, c.loop-k.sum-is) (fits c)
 

@@ -5,18 +5,18 @@ use Rattle.rows.proofs.Fits.{fits_32}
 use Rattle.rows.proofs.UnusedFaders.{unused_at, unused_none}
 use Rattle.rows.proofs.row.Row.first_unused.Goals as goal
 
-pub returns-then-is-unused : goal.returns-then-is-unused
-returns-then-is-unused c =
+pub returns-then-is_unused : goal.returns-then-is_unused
+returns-then-is_unused c =
     let zs = c.args.self.now.coefficients in
     let f = fits_32 (get_or zs c.loop-k.k (pos 0)) (c.args.self.now.within c.loop-k.k) in
-    let e : unused c.args.count c.loop-k.k (get_or zs c.loop-k.k (pos 0)) ≡ true = sym (simp to_z-of_z at c.is-unused.ensures) ∙ c.if-is-unused.true in
+    let e : unused c.args.count c.loop-k.k (get_or zs c.loop-k.k (pos 0)) ≡ true = sym (simp to_z-of_z at c.is_unused.ensures) ∙ c.if-is_unused.true in
     sym (unused_at c.args.count c.loop-k.k zs true (omega (arith, c.args.self.now.places)) e) ∙ c.loop-k.invariant
 
 pub loop-k-preserved : goal.loop-k-preserved
 loop-k-preserved c =
     let zs = c.args.self.now.coefficients in
     let f = fits_32 (get_or zs c.loop-k.k (pos 0)) (c.args.self.now.within c.loop-k.k) in
-    let e : unused c.args.count c.loop-k.k (get_or zs c.loop-k.k (pos 0)) ≡ false = sym (simp to_z-of_z at c.is-unused.ensures) ∙ c.if-is-unused.false in
+    let e : unused c.args.count c.loop-k.k (get_or zs c.loop-k.k (pos 0)) ≡ false = sym (simp to_z-of_z at c.is_unused.ensures) ∙ c.if-is_unused.false in
     sym (unused_at c.args.count c.loop-k.k zs false (omega (arith, c.args.self.now.places)) e) ∙ c.loop-k.invariant
 
 pub returns : goal.returns
