@@ -26,11 +26,16 @@ walk-reply-requires g c =
       room = omega (arith, room_of g.E.Engine.cells (length c.args.table.now) _ _ _ c.in-ok-whole.ensures, c.decide-sounding.auto.table);
     }
 
-pub invariant-of-plan : goal.invariant-of-plan
-invariant-of-plan g c =
+pub invariant_of-plan : goal.invariant_of-plan
+invariant_of-plan g c =
     let p = c.args.plan.now in
     let e = back p c.walk-reply.new.rules c.walk-reply.ensures.rules in
-    (p.few, (p.short, (ap length e ∙ p.places, (subst (λ (rs : List Rule). UsedBelow p.count (take p.len rs)) (sym e) p.used, tt))))
+    record {
+      few = p.few;
+      short = p.short;
+      places = ap length e ∙ p.places;
+      used = subst (λ (rs : List Rule). UsedBelow p.count (take p.len rs)) (sym e) p.used;
+    }
 
 pub returns-then-not-is-clash : goal.returns-then-not-is-clash
 returns-then-not-is-clash g c = record {

@@ -84,8 +84,8 @@ narrow c =
       fits_b = search rules;
     }
 
-pub invariant-of-result : goal.invariant-of-result
-invariant-of-result c =
+pub invariant_of-result : goal.invariant_of-result
+invariant_of-result c =
     let m = c.in-Some.fraction.numerator in
     let o = c.in-Some.fraction.denominator in
     let n = narrow c in

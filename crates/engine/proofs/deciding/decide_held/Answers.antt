@@ -9,7 +9,7 @@ read-requires g c =
     let v = g.E.Engine.view c.args.engine.now in
     let w = g.E.Engine.view c.decide.new.self in
     let held = length c.args.table.now in
-    let d = c.in-ok-decide.ensures in
+    let d = c.in_ok-decide.ensures in
     let valid = c.requires.valid in
     record {
       few = omega (arith, valid.short, c.requires.held);
@@ -22,6 +22,6 @@ returns g c =
     let v = g.E.Engine.view c.args.engine.now in
     let w = g.E.Engine.view c.decide.new.self in
     let held = length c.args.table.now in
-    let d = c.in-ok-decide.ensures in
+    let d = c.in_ok-decide.ensures in
     decision_reply g.E.Engine.verdict g.E.Engine.cells held v w c.requires.valid.some tt d c.read.result
     (subst (λ (k : ℕ). MatchResult c.read.result (λ a. kept_answer k a ≡ w.answer) (λ _. ⊥)) (sym c.requires.held) c.read.ensures)

@@ -7,16 +7,16 @@ use Rattle.engine.specs.Deciding.{takes_refusal, loaded}
 use Rattle.engine.proofs.Loading.{row_refused, row_taken}
 use Rattle.engine.proofs.deciding.load.Goals as goal
 
-pub returns-in-err-take : goal.returns-in-err-take
-returns-in-err-take g c =
-    let p = err_from_is_err_and c.from-residual-in-err-take.result c.from-residual-in-err-take.ensures.1 in
+pub returns-in_err-take : goal.returns-in_err-take
+returns-in_err-take g c =
+    let p = err_from_is_err_and c.from_residual-in_err-take.result c.from_residual-in_err-take.ensures.1 in
     let l = c.loop-row in
-    rw (p.1, p.2) (row_refused c.args.count c.args.rows.now l.row-index c.row-item.result c.row-item.is l.invariant.0 c.loop-row-test.true (g.E.Engine.view l.engine) (g.E.Engine.view c.take.new.self) l.invariant.1 l.invariant.2 (Unit {0}) c.in-err-take.field-0.0 c.in-err-take.ensures)
+    rw (p.1, p.2) (row_refused c.args.count c.args.rows.now l.row-index c.row-item.result c.row-item.is l.invariant.0 c.loop-row-test.true (g.E.Engine.view l.engine) (g.E.Engine.view c.take.new.self) l.invariant.1 l.invariant.2 (Unit {0}) c.in_err-take.field-0.0 c.in_err-take.ensures)
 
 pub loop-row-preserved : goal.loop-row-preserved
 loop-row-preserved g c =
     let l = c.loop-row in
-    let t = row_taken c.args.count c.args.rows.now l.row-index c.row-item.result c.row-item.is l.invariant.0 c.loop-row-test.true (g.E.Engine.view l.engine) (g.E.Engine.view c.take.new.self) l.invariant.1 l.invariant.2 c.in-ok-take.field-0 c.in-ok-take.ensures in
+    let t = row_taken c.args.count c.args.rows.now l.row-index c.row-item.result c.row-item.is l.invariant.0 c.loop-row-test.true (g.E.Engine.view l.engine) (g.E.Engine.view c.take.new.self) l.invariant.1 l.invariant.2 c.in_ok-take.field-0 c.in_ok-take.ensures in
     (l.invariant.0, t.0, t.1)
 
 pub returns : goal.returns

@@ -10,10 +10,10 @@ pub loop-k-preserved : goal.loop-k-preserved
 loop-k-preserved g c =
     let l = c.loop-k in
     let a = (g.E.Engine.view c.args.engine.now).answer in
-    let z = c.in-ok-numerators.field-0 in
+    let z = c.in_ok-numerators.field-0 in
     let fz : SFits w32 z = search rules in
     let h : l.k < faders = c.loop-k-test.true in
-    let read = ok_same z (get_or (numerators_in a) l.k (pos 0)) (c.in-ok-numerators.ensures ∙ level_read c.args.denominator a l.k c.requires h) in
+    let read = ok_same z (get_or (numerators_in a) l.k (pos 0)) (c.in_ok-numerators.ensures ∙ level_read c.args.denominator a l.k c.requires h) in
     let ez = to_z-of_z w32 z fz in (
       length-set l.numerators l.k _ ∙ l.invariant.0,
       front_more l.numerators (numerators_in a) l.k _ (omega (arith, l.invariant.0)) (omega (arith, levels_places c.args.denominator a c.requires)) l.invariant.1 (ez ∙ read),
@@ -24,13 +24,18 @@ module _ (xs ys : List ℤ) (k : ℕ) (h : faders ≤ k) (p : length xs ≡ fade
   all_read : take k xs ≡ take k ys → xs ≡ ys
   all_read e = sym (take_all k xs (omega arith)) ∙ e ∙ take_all k ys (omega arith)
 
-pub invariant-of-result : goal.invariant-of-result
-invariant-of-result g c =
+pub invariant_of-result : goal.invariant_of-result
+invariant_of-result g c =
     let l = c.loop-k in
     let a = (g.E.Engine.view c.args.engine.now).answer in
     let d = c.args.denominator in
     let e = all_read l.numerators (numerators_in a) l.k c.loop-k-test.false l.invariant.0 (levels_places d a c.requires) l.invariant.1 in
-    (l.invariant.0, (subst EachWithin (sym e) (levels_within d a c.requires), ((levels_denominator d a c.requires).0, ((levels_denominator d a c.requires).1, tt))))
+    record {
+      places = l.invariant.0;
+      within = subst EachWithin (sym e) (levels_within d a c.requires);
+      positive = (levels_denominator d a c.requires).0;
+      bounded = (levels_denominator d a c.requires).1;
+    }
 
 pub returns : goal.returns
 returns g c =

@@ -13,9 +13,9 @@ loop-i-preserved g c =
     let n = c.args.rows in
     let v = g.E.Engine.view c.args.engine.now in
     let ws = weights_in v.answer in
-    let z = c.in-ok-values.field-0 in
+    let z = c.in_ok-values.field-0 in
     let fz : SFits w32 z = search rules in
-    let read = ok_same z (get_or ws l.i (pos 0)) (c.in-ok-values.ensures ∙ load_read n v l.i c.requires.loads c.requires.held c.loop-i-test.true) in
+    let read = ok_same z (get_or ws l.i (pos 0)) (c.in_ok-values.ensures ∙ load_read n v l.i c.requires.loads c.requires.held c.loop-i-test.true) in
     let ez = to_z-of_z w32 z fz ∙ read in (
       length-set l.values l.i _ ∙ l.invariant.0,
       within_set l.values l.i _ l.invariant.1 (subst Within (sym ez) (loads_within n v.answer c.requires.loads l.i)),

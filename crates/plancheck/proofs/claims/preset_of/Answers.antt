@@ -5,11 +5,16 @@ use Rattle.rows.specs.Limits.{largest, EachWithin}
 use Rattle.plancheck.proofs.Beyond.{none_found, all_within, some_denominator}
 use Rattle.plancheck.proofs.claims.preset_of.Goals as goal
 
-pub invariant-of-result : goal.invariant-of-result
-invariant-of-result c =
+pub invariant_of-result : goal.invariant_of-result
+invariant_of-result c =
     let n = none_found largest c.first-six-values.result c.in-Ok.numerators c.in-Ok.ensures in
     let f : SFits w64 c.args.denominator = search rules in
     let some = simp to_z-of_z at c.in-Some.ensures in
     let d = some_denominator c.args.denominator c.in-Some.denominator some in
     let e : EachWithin c.first-six-values.result = all_within largest 0 c.first-six-values.result n.0 in
-    (search rules, (subst EachWithin (sym n.1) e, (d.0, (d.1, tt))))
+    record {
+      places = search rules;
+      within = subst EachWithin (sym n.1) e;
+      positive = d.0;
+      bounded = d.1;
+    }

@@ -4,9 +4,9 @@ use Rattle.rows.specs.Limits.{largest, EachWithin}
 use Rattle.plancheck.proofs.Beyond.{none_found, all_within}
 use Rattle.plancheck.proofs.claims.weights_of.Goals as goal
 
-pub invariant-of-result : goal.invariant-of-result
-invariant-of-result c =
+pub invariant_of-result : goal.invariant_of-result
+invariant_of-result c =
     let zs = c.args.numbers.now.values in
     let n = none_found largest zs c.in-Ok.values c.in-Ok.ensures in
     let e : EachWithin zs = all_within largest 0 zs n.0 in
-    (search rules, (subst EachWithin (sym n.1) e, tt))
+    record { places = search rules; within = subst EachWithin (sym n.1) e }

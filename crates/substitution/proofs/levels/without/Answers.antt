@@ -3,7 +3,12 @@ use Rattle.std.proofs.lemmas.List.{length-set}
 use Rattle.rows.proofs.Fits.{within_set, zero_within}
 use Rattle.substitution.proofs.levels.without.Goals as goal
 
-pub invariant-of-result : goal.invariant-of-result
-invariant-of-result c =
+pub invariant_of-result : goal.invariant_of-result
+invariant_of-result c =
     let p = c.args.levels.now in
-    (length-set p.numerators c.args.fader (pos 0) ∙ p.places, (within_set p.numerators c.args.fader (pos 0) p.within zero_within, (p.positive, (p.bounded, tt))))
+    record {
+      places = length-set p.numerators c.args.fader (pos 0) ∙ p.places;
+      within = within_set p.numerators c.args.fader (pos 0) p.within zero_within;
+      positive = p.positive;
+      bounded = p.bounded;
+    }

@@ -14,8 +14,8 @@ use Rattle.substitution.proofs.pivoting.contradiction.Goals.{then-row-gt0, else-
 by_side : (r : Carried) (t : Bool) → lt_z (pos 0) r.side ≡ t → contradiction (numbers_of r) ≡ cond t (scale (negsuc 0) r.weights) r.weights
 by_side r t e = ap (λ (b : Bool). cond b (scale (negsuc 0) r.weights) r.weights) e
 
-pub invariant-of-result : goal.invariant-of-result
-invariant-of-result c =
+pub invariant_of-result : goal.invariant_of-result
+invariant_of-result c =
     let r = c.args.row.now in
     elim c.if-row-gt0.branch [
       | then-row-gt0 w ↦ (ap length (w.values-is ∙ w.negated-values.ensures) ∙ length_scale (negsuc 0) r.weights ∙ r.loads, (subst EachWithin (sym (w.values-is ∙ w.negated-values.ensures)) (opposite_within r.weights r.light), tt))

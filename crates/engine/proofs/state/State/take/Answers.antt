@@ -13,19 +13,24 @@ pub returns-in-Some : goal.returns-in-Some
 returns-in-Some c =
     let s = c.args.self.now in
     let n = length_state_rows s in
-    let e = take_refusal_last (constraint c.args.row.now) (state_view s) (omega arith) (omega arith) ∙ ap unused_refusal (sym c.first-unused.ensures ∙ c.in-Some.is) in
+    let e = take_refusal_last (constraint c.args.row.now) (state_view s) (omega arith) (omega arith) ∙ ap unused_refusal (sym c.first_unused.ensures ∙ c.in-Some.is) in
     rw e (refl, refl)
 
 pub returns : goal.returns
 returns c =
     let s = c.args.self.now in
     let n = length_state_rows s in
-    let e = take_refusal_last (constraint c.args.row.now) (state_view s) (omega arith) (omega arith) ∙ ap unused_refusal (sym c.first-unused.ensures ∙ c.in-default.is) in
+    let e = take_refusal_last (constraint c.args.row.now) (state_view s) (omega arith) (omega arith) ∙ ap unused_refusal (sym c.first_unused.ensures ∙ c.in_default.is) in
     rw e (ap (λ (rs : List Constraint). record { count = s.count; rows = rs; answer = Answer.none }) (constraints_more s.rows s.len c.args.row.now (omega (arith, s.places))))
 
-pub invariant-of-self : goal.invariant-of-self
-invariant-of-self c =
+pub invariant_of-self : goal.invariant_of-self
+invariant_of-self c =
     let s = c.args.self.now in
     let row = c.args.row.now in
-    let used = used_more s.count s.rows s.len row (omega (arith, s.places)) s.used (λ k q. unused_zero s.count 0 row.coefficients (sym c.first-unused.ensures ∙ c.in-default.is) k (omega (arith, q))) in
-    (s.few, (omega arith, (length-set s.rows s.len row ∙ s.places, (used, tt))))
+    let used = used_more s.count s.rows s.len row (omega (arith, s.places)) s.used (λ k q. unused_zero s.count 0 row.coefficients (sym c.first_unused.ensures ∙ c.in_default.is) k (omega (arith, q))) in
+    record {
+      few = s.few;
+      short = omega arith;
+      places = length-set s.rows s.len row ∙ s.places;
+      used = used;
+    }

@@ -46,8 +46,8 @@ returns-in-err-row c =
     let p = err_from_is_err_and c.from-residual.result c.from-residual.ensures.1 in
     rw (p.1, p.2, e) (refl, refl)
 
-pub invariant-of-self : goal.invariant-of-self
-invariant-of-self c =
+pub invariant_of-self : goal.invariant_of-self
+invariant_of-self c =
     let s = c.args.self.now in
     let cs = c.args.coefficients.now in
     let side = c.args.side in
@@ -57,7 +57,12 @@ invariant-of-self c =
     let same = ap (λ (t : Constraint). t.coefficients) m.1 in
     let used = used_more s.count s.rules s.len rule (omega (arith, s.places)) s.used
     (λ k q. ap (λ (zs : List ℤ). get_or zs k (pos 0)) same ∙ row_used s.count cs side m.0 k q) in
-    (s.few, (omega arith, (length-set s.rules s.len rule ∙ s.places, (used, tt))))
+    record {
+      few = s.few;
+      short = omega arith;
+      places = length-set s.rules s.len rule ∙ s.places;
+      used = used;
+    }
 
 pub returns : goal.returns
 returns c =

@@ -9,10 +9,15 @@ use Rattle.plans.proofs.PlanRules.{length_rules, rules_less, used_less}
 use Rattle.plans.proofs.Answering.{past_closed}
 use Rattle.plans.proofs.plan.Plan.lift.Goals as goal
 
-pub invariant-of-self : goal.invariant-of-self
-invariant-of-self c =
+pub invariant_of-self : goal.invariant_of-self
+invariant_of-self c =
     let s = c.args.self.now in
-    (s.few, (omega (arith, s.short), (s.places, (used_less s.count s.rules (s.len - 1) s.len (omega arith) s.used, tt))))
+    record {
+      few = s.few;
+      short = omega (arith, s.short);
+      places = s.places;
+      used = used_less s.count s.rules (s.len - 1) s.len (omega arith) s.used;
+    }
 
 pub returns : goal.returns
 returns c =

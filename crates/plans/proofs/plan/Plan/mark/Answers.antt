@@ -30,11 +30,16 @@ returns-then-self-number c =
     ∙ ap (λ (t : Bool). refused_if t (already b)) c.if-self-number.true in
     rw e (c.already.ensures, refl)
 
-pub invariant-of-self : goal.invariant-of-self
-invariant-of-self c =
+pub invariant_of-self : goal.invariant_of-self
+invariant_of-self c =
     let s = c.args.self.now in
     let x : Rule = record { row = (get_or s.rules c.args.number c.index-self-number-2.result).row; sounds = c.args.sounds } in
-    (s.few, (s.short, (length-set s.rules c.args.number x ∙ s.places, (used_marked s.count s.rules s.len c.args.number c.index-self-number-2.result x refl s.used, tt))))
+    record {
+      few = s.few;
+      short = s.short;
+      places = length-set s.rules c.args.number x ∙ s.places;
+      used = used_marked s.count s.rules s.len c.args.number c.index-self-number-2.result x refl s.used;
+    }
 
 pub returns : goal.returns
 returns c =

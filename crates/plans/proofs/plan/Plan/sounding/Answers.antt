@@ -39,8 +39,8 @@ loop-i-preserved c =
       )
     ]
 
-pub invariant-of-result : goal.invariant-of-result
-invariant-of-result c = let s = c.args.self.now in (omega (arith, s.short, c.loop-i.invariant.1), (c.loop-i.invariant.0, tt))
+pub invariant_of-result : goal.invariant_of-result
+invariant_of-result c = let s = c.args.self.now in (omega (arith, s.short, c.loop-i.invariant.1), (c.loop-i.invariant.0, tt))
 
 pub returns : goal.returns
 returns c =
