@@ -9,13 +9,13 @@ use Rattle.elimination.proofs.Bested.{no_worse, one_best}
 use Rattle.elimination.specs.Ranking.{lowers_total, lowers_chain}
 use Rattle.elimination.proofs.bests.best_lower.Goals as goal
 
-pub returns-in-Some-first-best : goal.returns-in-Some-first-best
-returns-in-Some-first-best c =
-    let found = c.find-lowers.new.found in
+pub returns-in-Some-first_best : goal.returns-in-Some-first_best
+returns-in-Some-first_best c =
+    let found = c.find_lowers.new.found in
     let n = c.in-Some.n in
-    let i = c.in-Some-first-best.i in
+    let i = c.in-Some-first_best.i in
     let x = c.index-found-i.result in
-    let f : FirstBest (no_worse lower_of better_lower lowers_total lowers_chain) (take n found) i = subst (λ (m : ℕ). FirstBest (no_worse lower_of better_lower lowers_total lowers_chain) (take m found) i) (omega arith) c.in-Some-first-best.ensures in
+    let f : FirstBest (no_worse lower_of better_lower lowers_total lowers_chain) (take n found) i = subst (λ (m : ℕ). FirstBest (no_worse lower_of better_lower lowers_total lowers_chain) (take m found) i) (omega arith) c.in-Some-first_best.ensures in
     let h : i < n = omega (arith, f.within, length-take n found) in
     ap (λ (u : Lower). Some (Some (lower_of u))) (sym (get_or-take n found i x h))
     ∙ ap Some (one_best lower_of better_lower lowers_total lowers_chain (take n found) i x f)

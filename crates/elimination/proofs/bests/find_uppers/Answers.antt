@@ -9,7 +9,7 @@ use Rattle.elimination.specs.Tightest.{upper_of, upper_limits}
 use Rattle.elimination.specs.Blending.{positive_is}
 use Rattle.elimination.proofs.Collecting.{onto, onto_none, all_found, passed_over, given_up, one_more}
 use Rattle.elimination.proofs.bests.find_uppers.Goals as goal
-use Rattle.elimination.proofs.bests.find_uppers.Goals.{then-is-above+in-Some, else-is-above}
+use Rattle.elimination.proofs.bests.find_uppers.Goals.{then-is_above+in-Some, else-is_above}
 
 abbrev test : ℕ → Line → Bool
 test k r = is_for k r.aside && is_positive (coefficient r k)
@@ -17,16 +17,16 @@ test k r = is_for k r.aside && is_positive (coefficient r k)
 pub loop-cell-init : goal.loop-cell-init
 loop-cell-init c = (omega arith, onto_none (upper_limits c.args.k c.args.levels.now c.args.table.now))
 
-pub upper-limit-requires : goal.upper-limit-requires
-upper-limit-requires c =
+pub upper_limit-requires : goal.upper_limit-requires
+upper_limit-requires c =
     let x = c.cell-item.result in
-    (c.requires.0, (positive_is (coefficient (line x) c.args.k) (and_parts (is_for c.args.k x.aside) (is_positive (coefficient (line x) c.args.k)) (sym c.is-above.ensures ∙ c.if-is-above.true)).1).0)
+    (c.requires.0, (positive_is (coefficient (line x) c.args.k) (and_parts (is_for c.args.k x.aside) (is_positive (coefficient (line x) c.args.k)) (sym c.is_above.ensures ∙ c.if-is_above.true)).1).0)
 
-pub returns-in-default : goal.returns-in-default
-returns-in-default c =
+pub returns-in_default : goal.returns-in_default
+returns-in_default c =
     let k = c.args.k in
     record {
-      value = sym (given_up (upper_limit k (levels_of c.args.levels.now)) (test k) c.args.table.now c.loop-cell.cell-index c.cell-item.result c.loop-cell-test.true c.cell-item.is (map upper_of (take c.loop-cell.n c.loop-cell.found)) (sym c.is-above.ensures ∙ c.if-is-above.true) c.in-default.ensures) ∙ c.loop-cell.invariant.1;
+      value = sym (given_up (upper_limit k (levels_of c.args.levels.now)) (test k) c.args.table.now c.loop-cell.cell-index c.cell-item.result c.loop-cell-test.true c.cell-item.is (map upper_of (take c.loop-cell.n c.loop-cell.found)) (sym c.is_above.ensures ∙ c.if-is_above.true) c.in_default.ensures) ∙ c.loop-cell.invariant.1;
       range = tt;
     }
 
@@ -39,17 +39,17 @@ loop-cell-preserved c =
     let n = c.loop-cell.n in
     let found = c.loop-cell.found in
     let G : List Limit → Option (List Limit) = λ ls. onto ls (upper_limits k c.args.levels.now (drop (i + 1) t)) in
-    elim c.if-is-above.branch [
-      | then-is-above+in-Some w ↦ (
+    elim c.if-is_above.branch [
+      | then-is_above+in-Some w ↦ (
         omega (arith, w.n-is, c.loop-cell.invariant.0),
         (λ j. G (map upper_of (take (w.n-is j) (w.found-is j))))
-            ∙ sym (one_more F (test k) t i c.cell-item.result c.loop-cell-test.true c.cell-item.is upper_of found n _ (omega (arith, c.loop-cell.invariant.0, c.requires.1, c.loop-cell.auto.found)) (sym c.is-above.ensures ∙ w.if-is-above.true) w.in-Some.ensures)
+            ∙ sym (one_more F (test k) t i c.cell-item.result c.loop-cell-test.true c.cell-item.is upper_of found n _ (omega (arith, c.loop-cell.invariant.0, c.requires.1, c.loop-cell.auto.found)) (sym c.is_above.ensures ∙ w.if-is_above.true) w.in-Some.ensures)
             ∙ c.loop-cell.invariant.1,
       )
-      | else-is-above w ↦ (
+      | else-is_above w ↦ (
         omega (arith, w.n-is, c.loop-cell.invariant.0),
         (λ j. G (map upper_of (take (w.n-is j) (w.found-is j))))
-            ∙ sym (passed_over F (test k) t i c.cell-item.result c.loop-cell-test.true c.cell-item.is (map upper_of (take n found)) (sym c.is-above.ensures ∙ w.if-is-above.false))
+            ∙ sym (passed_over F (test k) t i c.cell-item.result c.loop-cell-test.true c.cell-item.is (map upper_of (take n found)) (sym c.is_above.ensures ∙ w.if-is_above.false))
             ∙ c.loop-cell.invariant.1,
       )
     ]

@@ -5,15 +5,15 @@ use Rattle.elimination.specs.Working.{is_false}
 use Rattle.elimination.proofs.FalseRows.{false_chosen, none_chosen}
 use Rattle.elimination.proofs.choosing.choose_false.Goals as goal
 
-pub returns-in-default : goal.returns-in-default
-returns-in-default c = none_chosen c.args.table.now c.in-default.ensures
+pub returns-in_default : goal.returns-in_default
+returns-in_default c = none_chosen c.args.table.now c.in_default.ensures
 
-pub returns-then-is-false : goal.returns-then-is-false
-returns-then-is-false c =
+pub returns-then-is_false : goal.returns-then-is_false
+returns-then-is_false c =
     let x = c.index-table-i.result in
-    sym (cond-true (is_false (line x)) (Some (line x)) None (sym c.is-false.ensures ∙ c.if-is-false.true)) ∙ false_chosen c.args.table.now c.in-Some.i x c.in-Some.ensures c.index-table-i.is
+    sym (cond-true (is_false (line x)) (Some (line x)) None (sym c.is_false.ensures ∙ c.if-is_false.true)) ∙ false_chosen c.args.table.now c.in-Some.i x c.in-Some.ensures c.index-table-i.is
 
-pub returns-else-is-false : goal.returns-else-is-false
-returns-else-is-false c =
+pub returns-else-is_false : goal.returns-else-is_false
+returns-else-is_false c =
     let x = c.index-table-i.result in
-    sym (cond-false (is_false (line x)) (Some (line x)) None (sym c.is-false.ensures ∙ c.if-is-false.false)) ∙ false_chosen c.args.table.now c.in-Some.i x c.in-Some.ensures c.index-table-i.is
+    sym (cond-false (is_false (line x)) (Some (line x)) None (sym c.is_false.ensures ∙ c.if-is_false.false)) ∙ false_chosen c.args.table.now c.in-Some.i x c.in-Some.ensures c.index-table-i.is

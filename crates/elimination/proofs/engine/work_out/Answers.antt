@@ -6,15 +6,15 @@ use Rattle.elimination.specs.Lines.{lines}
 use Rattle.elimination.proofs.Conclusion.{equation_within, verdict_worked, says_worked}
 use Rattle.elimination.proofs.engine.work_out.Goals as goal
 
-pub overflow-cast-i : goal.overflow-cast-i
-overflow-cast-i c =
+pub overflow_cast-i : goal.overflow_cast-i
+overflow_cast-i c =
     let s = c.args.state.now in
-    let b = equation_within 0 (state_rows s) c.in-Some.i (sym c.first-equation.ensures ∙ c.in-Some.is) in
+    let b = equation_within 0 (state_rows s) c.in-Some.i (sym c.first_equation.ensures ∙ c.in-Some.is) in
     omega (arith, b, length_state_rows s, s.short)
 
 pub returns : goal.returns
 returns c =
     let s = c.args.state.now in
-    let e = c.in-ok-held.ensures in
-    let v = verdict_worked s.count (state_rows s) _ (sym c.first-equation.ensures ∙ c.in-default.is) (ap (λ (t : List Line). all_eliminated s.count 0 t) (sym c.fill.ensures) ∙ e.2) in
-    says_worked s.len s.count (state_rows s) (lines (take c.in-ok-held.held c.eliminate-all.new.table)) c.conclude.result (length_state_rows s) v c.conclude.ensures
+    let e = c.in_ok-held.ensures in
+    let v = verdict_worked s.count (state_rows s) _ (sym c.first_equation.ensures ∙ c.in_default.is) (ap (λ (t : List Line). all_eliminated s.count 0 t) (sym c.fill.ensures) ∙ e.2) in
+    says_worked s.len s.count (state_rows s) (lines (take c.in_ok-held.held c.eliminate_all.new.table)) c.conclude.result (length_state_rows s) v c.conclude.ensures

@@ -23,22 +23,22 @@ picked_is (Some ls) (Some us) = refl
 set_is : (k : ℕ) (t : List Cell) (p : Preset) (l u : Option (Option Limit)) → l ≡ best_lower k p t → u ≡ best_upper k p t → placed k (levels_of p) (picked l u) ≡ set_fader k (lines t) (levels_of p)
 set_is k t p l u a b = (λ i. placed k (levels_of p) (picked (a i) (b i))) ∙ ap (placed k (levels_of p)) (picked_is (lower_limits k p t) (upper_limits k p t))
 
-pub returns-in-default : goal.returns-in-default
-returns-in-default c =
+pub returns-in_default : goal.returns-in_default
+returns-in_default c =
     let k = c.args.k in
-    set_is k c.args.table.now c.args.levels.now None (best_upper k c.args.levels.now c.args.table.now) c.in-default.ensures refl
+    set_is k c.args.table.now c.args.levels.now None (best_upper k c.args.levels.now c.args.table.now) c.in_default.ensures refl
 
-pub returns-in-default-best-upper : goal.returns-in-default-best-upper
-returns-in-default-best-upper c =
-    set_is c.args.k c.args.table.now c.args.levels.now (Some (option_map limit_of c.in-Some.lower)) None c.in-Some.ensures c.in-default-best-upper.ensures
+pub returns-in_default-best_upper : goal.returns-in_default-best_upper
+returns-in_default-best_upper c =
+    set_is c.args.k c.args.table.now c.args.levels.now (Some (option_map limit_of c.in-Some.lower)) None c.in-Some.ensures c.in_default-best_upper.ensures
 
-pub returns-in-default-value : goal.returns-in-default-value
-returns-in-default-value c =
-    ap (placed c.args.k (levels_of c.args.levels.now)) c.in-default-value.ensures
-    ∙ set_is c.args.k c.args.table.now c.args.levels.now (Some (option_map limit_of c.in-Some.lower)) (Some (option_map limit_of c.in-Some-best-upper.upper)) c.in-Some.ensures c.in-Some-best-upper.ensures
+pub returns-in_default-value : goal.returns-in_default-value
+returns-in_default-value c =
+    ap (placed c.args.k (levels_of c.args.levels.now)) c.in_default-value.ensures
+    ∙ set_is c.args.k c.args.table.now c.args.levels.now (Some (option_map limit_of c.in-Some.lower)) (Some (option_map limit_of c.in-Some-best_upper.upper)) c.in-Some.ensures c.in-Some-best_upper.ensures
 
 pub returns : goal.returns
 returns c =
-    c.with-level.ensures
+    c.with_level.ensures
     ∙ ap (placed c.args.k (levels_of c.args.levels.now)) c.in-Some-value.ensures
-    ∙ set_is c.args.k c.args.table.now c.args.levels.now (Some (option_map limit_of c.in-Some.lower)) (Some (option_map limit_of c.in-Some-best-upper.upper)) c.in-Some.ensures c.in-Some-best-upper.ensures
+    ∙ set_is c.args.k c.args.table.now c.args.levels.now (Some (option_map limit_of c.in-Some.lower)) (Some (option_map limit_of c.in-Some-best_upper.upper)) c.in-Some.ensures c.in-Some-best_upper.ensures

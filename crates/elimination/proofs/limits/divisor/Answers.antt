@@ -11,7 +11,7 @@ returns c =
     let d = c.args.levels.now.denominator in
     let z = get_or c.args.cell.now.row.coefficients c.args.k (pos 0) in
     let f : SFits w32 z = fits_32 z (c.args.cell.now.row.within c.args.k) in
-    let e = simp to_z-of_z at c.unsigned-abs.ensures.value in
+    let e = simp to_z-of_z at c.unsigned_abs.ensures.value in
     let v = ap (λ (x : ℕ). x * d) e in
     record {
       value = v;

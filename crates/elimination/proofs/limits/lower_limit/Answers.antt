@@ -14,8 +14,8 @@ negated c = +ℤ_idl (neg_ℤ c.remaining.result) ∙ (λ i. neg_ℤ (c.remainin
 fits : (c : After-remaining) → SFits w64 (pos 0 -ℤ c.remaining.result)
 fits c = subst (SFits w64) (sym (+ℤ_idl (neg_ℤ c.remaining.result))) (turned c.remaining.result c.remaining.ensures.size)
 
-pub overflow-sub-remaining : goal.overflow-sub-remaining
-overflow-sub-remaining c =
+pub overflow_sub-remaining : goal.overflow_sub-remaining
+overflow_sub-remaining c =
     let f : SFits w64 c.remaining.result = search rules in
     simp to_z-of_z (fits c)
 

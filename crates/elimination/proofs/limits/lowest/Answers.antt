@@ -7,7 +7,7 @@ use Rattle.rows.proofs.Blends.{some_narrowed, none_narrowed, near_within}
 use Rattle.elimination.specs.Table.{near}
 use Rattle.elimination.specs.Levels.{Limit, lowest}
 use Rattle.elimination.proofs.limits.lowest.Goals as goal
-use Rattle.elimination.proofs.limits.lowest.Goals.{In-Some, In-Some-narrow-2}
+use Rattle.elimination.proofs.limits.lowest.Goals.{in-Some, in-Some-narrow-2}
 
 -- m over o are the lowest terms of n over d
 module _ (n : ℤ) (d : ℕ) (s : Bool) (m o : ℤ) (em : m ≡ lowest_numerator n (pos d)) (eo : o ≡ lowest_denominator n (pos d)) where
@@ -28,7 +28,7 @@ record Known (n : ℤ) (d : ℕ) (m o : ℤ) : Type 0 where
   fits_m : SFits w64 m
   fits_o : SFits w64 o
 
-known : (c : In-Some) → Known c.args.numerator c.args.denominator c.in-Some.fraction.numerator c.in-Some.fraction.denominator
+known : (c : in-Some) → Known c.args.numerator c.args.denominator c.in-Some.fraction.numerator c.in-Some.fraction.denominator
 known c =
     let fn : SFits w64 c.args.numerator = c.ranges.numerator in
     let e : to_z w64 c.args.denominator ≡ pos c.args.denominator = to_z_pos w64 c.args.denominator c.requires.1 in
@@ -41,24 +41,24 @@ known c =
       fits_o = search rules;
     }
 
-pub returns-in-default : goal.returns-in-default
-returns-in-default c = absurd (omega (arith, ints, c.in-default.ensures.value))
+pub returns-in_default : goal.returns-in_default
+returns-in_default c = absurd (omega (arith, ints, c.in_default.ensures.value))
 
-pub returns-in-default-narrow : goal.returns-in-default-narrow
-returns-in-default-narrow c =
-    let k = known (goal.at.returns-in-default-narrow c).In-Some in
+pub returns-in_default-narrow : goal.returns-in_default-narrow
+returns-in_default-narrow c =
+    let k = known (goal.at.returns-in_default-narrow c).In-Some in
     let m = c.in-Some.fraction.numerator in
     let o = c.in-Some.fraction.denominator in
     let fm = k.fits_m in
-    refused c.args.numerator c.args.denominator c.args.strict m o k.numerator k.denominator (and_left (near m) (near o) (none_narrowed m (simp to_z-of_z at c.in-default-narrow.ensures)))
+    refused c.args.numerator c.args.denominator c.args.strict m o k.numerator k.denominator (and_left (near m) (near o) (none_narrowed m (simp to_z-of_z at c.in_default-narrow.ensures)))
 
-pub returns-in-default-narrow-2 : goal.returns-in-default-narrow-2
-returns-in-default-narrow-2 c =
-    let k = known (goal.at.returns-in-default-narrow-2 c).In-Some in
+pub returns-in_default-narrow-2 : goal.returns-in_default-narrow-2
+returns-in_default-narrow-2 c =
+    let k = known (goal.at.returns-in_default-narrow-2 c).In-Some in
     let m = c.in-Some.fraction.numerator in
     let o = c.in-Some.fraction.denominator in
     let fo = k.fits_o in
-    refused c.args.numerator c.args.denominator c.args.strict m o k.numerator k.denominator (and_right (near m) (near o) (none_narrowed o (simp to_z-of_z at c.in-default-narrow-2.ensures)))
+    refused c.args.numerator c.args.denominator c.args.strict m o k.numerator k.denominator (and_right (near m) (near o) (none_narrowed o (simp to_z-of_z at c.in_default-narrow-2.ensures)))
 
 -- the two numbers in the narrow type
 record Narrow (m o a b : ℤ) : Type 0 where
@@ -69,7 +69,7 @@ record Narrow (m o a b : ℤ) : Type 0 where
   fits_a : SFits w32 a
   fits_b : SFits w32 b
 
-narrow : (c : In-Some-narrow-2) → Narrow c.in-Some.fraction.numerator c.in-Some.fraction.denominator c.in-Some-narrow.above c.in-Some-narrow-2.below
+narrow : (c : in-Some-narrow-2) → Narrow c.in-Some.fraction.numerator c.in-Some.fraction.denominator c.in-Some-narrow.above c.in-Some-narrow-2.below
 narrow c =
     let fm : SFits w64 c.in-Some.fraction.numerator = search rules in
     let fo : SFits w64 c.in-Some.fraction.denominator = search rules in
@@ -96,7 +96,7 @@ invariant_of-result c =
     let po : pos 0 <ℤ o = c.in-Some.fraction.positive in
     let ob : nat_abs c.in-Some-narrow-2.below ≡ nat_abs o = ap nat_abs n.is_o in
     let size : 0 < nat_abs o = omega (arith, ints) in
-    simp to_z-of_z (subst Within (sym n.is_m) wm, (omega (arith, ob, size), (omega (arith, ob, wo), tt)))
+    record { within = simp to_z-of_z (subst Within (sym n.is_m) wm); positive = simp to_z-of_z (omega (arith, ob, size)); bounded = simp to_z-of_z (omega (arith, ob, wo)) }
 
 pub returns : goal.returns
 returns c =

@@ -15,13 +15,13 @@ loop-k-init c = (c.requires.table.0, refl, ap (λ (x : ℕ). all_eliminated x 0 
 pub loop-k-preserved : goal.loop-k-preserved
 loop-k-preserved c =
     let i = c.loop-k.invariant in
-    let e = c.in-ok-end.ensures in
-    (e.0, e.1 ∙ i.1, i.2 ∙ stage_ok c.args.count c.loop-k.k (lines (take c.loop-k.end c.loop-k.table)) (lines (take c.in-ok-end.end c.eliminate.new.table)) c.loop-k-test.true e.2)
+    let e = c.in_ok-end.ensures in
+    (e.0, e.1 ∙ i.1, i.2 ∙ stage_ok c.args.count c.loop-k.k (lines (take c.loop-k.end c.loop-k.table)) (lines (take c.in_ok-end.end c.eliminate.new.table)) c.loop-k-test.true e.2)
 
-pub returns-in-err-end : goal.returns-in-err-end
-returns-in-err-end c =
-    let p = err_from_is_err_and c.from-residual.result c.from-residual.ensures.1 in
-    rw (p.1, p.2) (c.loop-k.invariant.2 ∙ stage_err c.args.count c.loop-k.k (lines (take c.loop-k.end c.loop-k.table)) _ c.loop-k-test.true c.in-err-end.ensures)
+pub returns-in_err-end : goal.returns-in_err-end
+returns-in_err-end c =
+    let p = err_from_is_err_and c.from_residual.result c.from_residual.ensures.1 in
+    rw (p.1, p.2) (c.loop-k.invariant.2 ∙ stage_err c.args.count c.loop-k.k (lines (take c.loop-k.end c.loop-k.table)) _ c.loop-k-test.true c.in_err-end.ensures)
 
 pub returns : goal.returns
 returns c =

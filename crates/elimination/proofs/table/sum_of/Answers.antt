@@ -28,7 +28,7 @@ combine-requires c =
 factor_is : (x : ℤ) (n : ℕ) → Within x → x ≡ pos n → to_z w32 (of_z w32 x) ≡ pos n
 factor_is x n w e = to_z-of_z w32 x (fits_32 x w) ∙ e
 
-module _ (c : goal.In-default) where
+module _ (c : goal.In_default) where
   rest_combination : sum_fits (combination (to_z w32 (of_z w32 c.parts-n.result.1)) (numbers_of c.args.upper.now.row) (to_z w32 (of_z w32 c.parts-n.result.0)) (numbers_of c.args.lower.now.row)) ≡ fits (combined c.args.fader (line c.args.upper.now) (line c.args.lower.now))
   rest_combination =
       let u = c.args.upper.now.row in
@@ -42,8 +42,8 @@ module _ (c : goal.In-default) where
       let en = factor_is c.parts-n.result.0 (nat_abs A / gcd_of (nat_abs A) (nat_abs B)) c.parts-n.ensures.within.0 (simp to_z-of_z at c.parts-n.ensures.first) in
       λ j. sum_fits (combination (em j) (numbers_of u) (en j) (numbers_of l))
 
-pub returns-in-default : goal.returns-in-default
-returns-in-default c = sym (rest_combination c) ∙ c.in-default.ensures
+pub returns-in_default : goal.returns-in_default
+returns-in_default c = sym (rest_combination c) ∙ c.in_default.ensures
 
 pub returns : goal.returns
 returns c =

@@ -19,14 +19,14 @@ module _ (l u : Limit) where
   sum_fits : (p q : ℤ) → p ≡ l.numerator *ℤ pos u.denominator → q ≡ u.numerator *ℤ pos l.denominator → SFits w64 (p +ℤ q)
   sum_fits p q a b = rw (a, b) (two_products l.numerator (pos u.denominator) u.numerator (pos l.denominator) l.within u.bounded u.within l.bounded)
 
-pub overflow-mul-l-2 : goal.overflow-mul-l-2
-overflow-mul-l-2 c = omega (arith, small c.args.l.now c.args.u.now)
+pub overflow_mul-l-2 : goal.overflow_mul-l-2
+overflow_mul-l-2 c = omega (arith, small c.args.l.now c.args.u.now)
 
 pub lowest-requires : goal.lowest-requires
 lowest-requires c = (omega (arith, some c.args.l.now c.args.u.now), omega (arith, small c.args.l.now c.args.u.now))
 
-pub overflow-add-across : goal.overflow-add-across
-overflow-add-across c =
+pub overflow_add-across : goal.overflow_add-across
+overflow_add-across c =
     let f : SFits w64 c.across.result = search rules in
     let g : SFits w64 c.across-2.result = search rules in
     simp to_z-of_z (sum_fits c.args.l.now c.args.u.now c.across.result c.across-2.result c.across.ensures c.across-2.ensures)

@@ -10,7 +10,7 @@ use Rattle.substitution.proofs.below.hand_down.Goals as goal
 pub loop-i-preserved : goal.loop-i-preserved
 loop-i-preserved c =
     let l = c.loop-i in
-    handed_more c.args.left.now l.rows l.i c.index-left-i.result c.handed-down.result c.loop-i-test.true (omega (arith, c.requires, l.auto.rows, c.loop-i-test.true)) c.index-left-i.is c.handed-down.ensures l.invariant
+    handed_more c.args.left.now l.rows l.i c.index-left-i.result c.handed_down.result c.loop-i-test.true (omega (arith, c.requires, l.auto.rows, c.loop-i-test.true)) c.index-left-i.is c.handed_down.ensures l.invariant
 
 pub returns : goal.returns
 returns c =

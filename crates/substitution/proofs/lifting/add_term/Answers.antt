@@ -11,8 +11,8 @@ narrow_term_of w u t a b p o f e n is =
     let n' = simp to_z-of_z at n in
     sym is ∙ n' ∙ ap narrowed e'
 
-pub overflow-add-sum : goal.overflow-add-sum
-overflow-add-sum c =
+pub overflow_add-sum : goal.overflow_add-sum
+overflow_add-sum c =
     let n = narrow_term_of c.args.weight c.args.carried c.in-Some.term c.ranges.weight c.ranges.carried c.product.result c.narrow.result (search rules) c.product.ensures c.narrow.ensures c.in-Some.is in
     let s : SFits w32 c.args.sum = c.ranges.sum in
     let t : SFits w32 c.in-Some.term = term_fits (c.args.weight *ℤ c.args.carried) c.in-Some.term n in

@@ -9,8 +9,8 @@ use Rattle.substitution.specs.Clashing.{terms_sum}
 use Rattle.substitution.proofs.Lifts.{lift_starts, lift_more, lift_fails, lift_ends}
 use Rattle.substitution.proofs.lifting.lift.Goals as goal
 
-pub lift-one-requires : goal.lift-one-requires
-lift-one-requires c = (c.requires.0, omega (arith, c.requires.1))
+pub lift_one-requires : goal.lift_one-requires
+lift_one-requires c = (c.requires.0, omega (arith, c.requires.1))
 
 pub loop-j-init : goal.loop-j-init
 loop-j-init c =

@@ -16,8 +16,8 @@ module _ (ws : List ℤ) (rows : List Held) (i place : ℕ) (r : Held) (s : ℤ)
   pub by_place : (o : Option ℤ) → o ≡ with_term s (get_or ws i (pos 0)) (get_or r.row.weights place (pos 0)) → o ≡ with_term s (get_or (take (length rows) ws) i (pos 0)) (get_or (carried_weights place (kepts rows)) i (pos 0))
   by_place o q = q ∙ (λ j. with_term s (weight_is j) (sym (carried_at rows i place r h e) j))
 
-pub returns-in-default : goal.returns-in-default
-returns-in-default c =
+pub returns-in_default : goal.returns-in_default
+returns-in_default c =
     let ws = c.args.below.now.values in
     let rows = c.args.rows.now in
     let i = c.loop-i.i in
@@ -28,7 +28,7 @@ returns-in-default c =
     let k : length (take (length rows) ws) ≡ length rows = length-take-le (length rows) ws (omega (arith, c.requires.0, c.args.below.now.places)) in
     let b : SFits w32 (get_or ws i (pos 0)) = fits_32 (get_or ws i (pos 0)) (c.args.below.now.within i) in
     let d : SFits w32 (get_or r.row.weights place (pos 0)) = fits_32 (get_or r.row.weights place (pos 0)) (r.row.light place) in
-    let q = simp to_z-of_z at c.in-default.ensures in
+    let q = simp to_z-of_z at c.in_default.ensures in
     terms_none (take (length rows) ws) us i (omega arith) (omega arith) _ (by_place ws rows i place r _ (omega arith) c.index-rows-i.is None q) ∙ sym c.loop-i.invariant
 
 pub loop-i-preserved : goal.loop-i-preserved

@@ -27,20 +27,20 @@ returns-then-a-eq0 c =
     let k = c.args.fader in
     cancel_stays k (numbers_of c.args.pivot.now) (kept_of c.args.kept.now) (none_by_bits (get_or s.coefficients k (pos 0)) (s.within k) c.if-a-eq0.true)
 
-pub returns-in-default : goal.returns-in-default
-returns-in-default c =
+pub returns-in_default : goal.returns-in_default
+returns-in_default c =
     let s = c.args.kept.now.row in
     let p = c.args.pivot.now in
     let k = c.args.fader in
-    let e = combination_is k s p c.parts-part.result.1 c.pivot-factor-other.result c.parts-part.ensures.within.1 c.pivot-factor-other.ensures.within c.parts-part.ensures.second c.pivot-factor-other.ensures.value in
-    cancel_beyond k (numbers_of p) (kept_of c.args.kept.now) (some_by_bits (get_or s.coefficients k (pos 0)) c.if-a-eq0.false) (sym (ap fits e) ∙ c.in-default.ensures)
+    let e = combination_is k s p c.parts-part.result.1 c.pivot_factor-other.result c.parts-part.ensures.within.1 c.pivot_factor-other.ensures.within c.parts-part.ensures.second c.pivot_factor-other.ensures.value in
+    cancel_beyond k (numbers_of p) (kept_of c.args.kept.now) (some_by_bits (get_or s.coefficients k (pos 0)) c.if-a-eq0.false) (sym (ap fits e) ∙ c.in_default.ensures)
 
 pub returns : goal.returns
 returns c =
     let s = c.args.kept.now.row in
     let p = c.args.pivot.now in
     let k = c.args.fader in
-    let e = combination_is k s p c.parts-part.result.1 c.pivot-factor-other.result c.parts-part.ensures.within.1 c.pivot-factor-other.ensures.within c.parts-part.ensures.second c.pivot-factor-other.ensures.value in
+    let e = combination_is k s p c.parts-part.result.1 c.pivot_factor-other.result c.parts-part.ensures.within.1 c.pivot_factor-other.ensures.within c.parts-part.ensures.second c.pivot_factor-other.ensures.value in
     let q = c.in-Some.ensures in
     ap (λ (x : Sum). Some (record { kind = c.args.kept.now.kind; sum = x })) (q.1 ∙ e)
     ∙ cancel_takes k (numbers_of p) (kept_of c.args.kept.now) (some_by_bits (get_or s.coefficients k (pos 0)) c.if-a-eq0.false) (sym (ap fits e) ∙ q.0)

@@ -18,8 +18,8 @@ pub invariant_of-result : goal.invariant_of-result
 invariant_of-result c =
     let r = c.args.row.now in
     elim c.if-row-gt0.branch [
-      | then-row-gt0 w ↦ (ap length (w.values-is ∙ w.negated-values.ensures) ∙ length_scale (negsuc 0) r.weights ∙ r.loads, (subst EachWithin (sym (w.values-is ∙ w.negated-values.ensures)) (opposite_within r.weights r.light), tt))
-      | else-row-gt0 w ↦ (ap length w.values-is ∙ r.loads, (subst EachWithin (sym w.values-is) r.light, tt))
+      | then-row-gt0 w ↦ record { places = ap length (w.values-is ∙ w.negated-values.ensures) ∙ length_scale (negsuc 0) r.weights ∙ r.loads; within = subst EachWithin (sym (w.values-is ∙ w.negated-values.ensures)) (opposite_within r.weights r.light) }
+      | else-row-gt0 w ↦ record { places = ap length w.values-is ∙ r.loads; within = subst EachWithin (sym w.values-is) r.light }
     ]
 
 pub returns : goal.returns

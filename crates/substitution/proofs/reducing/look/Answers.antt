@@ -5,11 +5,11 @@ use Rattle.substitution.proofs.Places.{none_by_bits, some_by_bits}
 use Rattle.substitution.proofs.Looks.{passed_onward, without_onward, pivot_onward, passes, contradicts, empties, stops, solves}
 use Rattle.substitution.proofs.reducing.look.Goals as goal
 
-pub returns-then-not-is-equation : goal.returns-then-not-is-equation
-returns-then-not-is-equation c =
+pub returns-then-not-is_equation : goal.returns-then-not-is_equation
+returns-then-not-is_equation c =
     record {
       value = ap (ahead c.args.rows.now c.args.pivots.now) c.passed.ensures
-          ∙ passes c.args.rows.now c.args.pivots.now c.args.at c.index-rows-at.result c.requires.place c.requires.held c.index-rows-at.is (sym c.if-not-is-equation.ensures);
+          ∙ passes c.args.rows.now c.args.pivots.now c.args.at c.index-rows-at.result c.requires.place c.requires.held c.index-rows-at.is (sym c.if-not-is_equation.ensures);
       onward = subst (Onward c.args.at) (sym c.passed.ensures) (passed_onward c.args.at c.requires.place);
     }
 
@@ -19,34 +19,34 @@ returns-then-kept-ne0 c =
     record {
       value = ap clashing c.contradiction.ensures
           ∙ contradicts c.args.rows.now c.args.pivots.now c.args.at r c.requires.place c.requires.held c.index-rows-at.is
-          (sym c.if-not-is-equation.ensures) (sym c.in-default.ensures.value) (some_by_bits r.row.side c.if-kept-ne0.true);
+          (sym c.if-not-is_equation.ensures) (sym c.in_default.ensures.value) (some_by_bits r.row.side c.if-kept-ne0.true);
       onward = tt;
     }
 
-pub returns-in-default : goal.returns-in-default
-returns-in-default c =
+pub returns-in_default : goal.returns-in_default
+returns-in_default c =
     let r = c.index-rows-at.result in
     record {
-      value = ap (ahead c.remove.new.rows c.args.pivots.now) c.taken-out.ensures
+      value = ap (ahead c.remove.new.rows c.args.pivots.now) c.taken_out.ensures
           ∙ empties c.args.rows.now c.args.pivots.now c.args.at r c.requires.place c.requires.held c.index-rows-at.is c.remove.new.rows c.remove.ensures
-          (sym c.if-not-is-equation.ensures) (sym c.in-default.ensures.value) (none_by_bits r.row.side r.row.bounded c.if-kept-ne0.false);
-      onward = subst (Onward c.args.at) (sym c.taken-out.ensures) (without_onward c.args.at c.requires.place);
+          (sym c.if-not-is_equation.ensures) (sym c.in_default.ensures.value) (none_by_bits r.row.side r.row.bounded c.if-kept-ne0.false);
+      onward = subst (Onward c.args.at) (sym c.taken_out.ensures) (without_onward c.args.at c.requires.place);
     }
 
-pub returns-then-not-cancel-all : goal.returns-then-not-cancel-all
-returns-then-not-cancel-all c =
+pub returns-then-not-cancel_all : goal.returns-then-not-cancel_all
+returns-then-not-cancel_all c =
     record {
       value = ap faulty c.new.ensures
           ∙ stops c.args.rows.now c.args.pivots.now c.args.at c.index-rows-at.result c.requires.place c.requires.held c.index-rows-at.is c.remove-2.new.rows c.remove-2.ensures
-          (sym c.if-not-is-equation.ensures) c.in-Some.fader (sym c.in-Some.ensures.value) (c.if-not-cancel-all.ensures.none refl);
+          (sym c.if-not-is_equation.ensures) c.in-Some.fader (sym c.in-Some.ensures.value) (c.if-not-cancel_all.ensures.none refl);
       onward = tt;
     }
 
 pub returns : goal.returns
 returns c =
     record {
-      value = ap (ahead c.cancel-all.new.rows _) c.made-pivot.ensures
+      value = ap (ahead c.cancel_all.new.rows _) c.made_pivot.ensures
           ∙ solves c.args.rows.now c.args.pivots.now c.args.at c.index-rows-at.result c.requires.place c.requires.held c.index-rows-at.is c.remove-2.new.rows c.remove-2.ensures
-          (sym c.if-not-is-equation.ensures) c.cancel-all.new.rows _ (omega (arith, c.requires.place, c.requires.room)) refl (sym c.in-Some.ensures.value) (c.if-not-cancel-all.ensures.all refl);
-      onward = subst (Onward c.args.at) (sym c.made-pivot.ensures) (pivot_onward c.args.at c.requires.place);
+          (sym c.if-not-is_equation.ensures) c.cancel_all.new.rows _ (omega (arith, c.requires.place, c.requires.room)) refl (sym c.in-Some.ensures.value) (c.if-not-cancel_all.ensures.all refl);
+      onward = subst (Onward c.args.at) (sym c.made_pivot.ensures) (pivot_onward c.args.at c.requires.place);
     }

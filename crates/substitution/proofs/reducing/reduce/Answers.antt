@@ -12,8 +12,8 @@ loop-at-init c = (ap (λ (x : ℕ). reduced x [] (kepts (take c.args.held c.args
 
 pub loop-at-preserved : goal.loop-at-preserved
 loop-at-preserved c =
-    let o : OnwardAfter c.loop-at.at (Ok (Left c.in-Left.next)) = subst (λ (x : Outcome). OnwardAfter c.loop-at.at (Ok x)) c.in-Left.is c.in-ok-next.ensures.onward in
-    let v = ap (λ (x : Outcome). ahead_after c.look.new.rows c.look.new.pivots (Ok x)) (sym c.in-Left.is) ∙ c.in-ok-next.ensures.value in
+    let o : OnwardAfter c.loop-at.at (Ok (Left c.in-Left.next)) = subst (λ (x : Outcome). OnwardAfter c.loop-at.at (Ok x)) c.in-Left.is c.in_ok-next.ensures.onward in
+    let v = ap (λ (x : Outcome). ahead_after c.look.new.rows c.look.new.pivots (Ok x)) (sym c.in-Left.is) ∙ c.in_ok-next.ensures.value in
     (v ∙ c.loop-at.invariant.0, o.inside, omega (arith, o.few, c.loop-at.invariant.2))
 
 pub returns : goal.returns

@@ -8,4 +8,4 @@ use Rattle.elimination.proofs.engine.EliminationEngine.decide.Goals as goal
 pub returns : goal.returns
 returns c =
     let s = c.args.self.now.state in
-    decides elimination_verdict room (length c.args.table.now) s c.work-out-found.result c.settle.result (state_view c.settle.new.self) c.in-ok-ready.ensures c.work-out-found.ensures c.settle.ensures
+    decides elimination_verdict room (length c.args.table.now) s c.work_out-found.result c.settle.result (state_view c.settle.new.self) c.in_ok-ready.ensures c.work_out-found.ensures c.settle.ensures

@@ -18,9 +18,9 @@ returns c =
     let g : SFits w64 c.turned.result = search rules in
     let l : SFits w64 c.remaining-left.result = search rules in
     let t = simp to_z-of_z at c.turned.ensures in
-    let u = simp to_z-of_z at c.unsigned-abs-size.ensures.value in
+    let u = simp to_z-of_z at c.unsigned_abs-size.ensures.value in
     let q = c.remaining-left.ensures.value ∙ (λ i. remaining (numbers_of p.row) (c.without.ensures i).0 (c.without.ensures i).1) in
     let v = t ∙ (λ i. cond (lt_z (pos 0) b) (q i) (neg_ℤ (q i))) in
     c.least.ensures.value
-    ∙ (λ i. least_terms (set (c.scaled-numerators.ensures i) k (to_z-of_z w64 c.turned.result g i)) (c.unsigned-abs-size.result * d))
+    ∙ (λ i. least_terms (set (c.scaled-numerators.ensures i) k (to_z-of_z w64 c.turned.result g i)) (c.unsigned_abs-size.result * d))
     ∙ (λ i. least_terms (set (scale (pos (u i)) ns) k (v i)) (u i * d))
