@@ -6,7 +6,7 @@ use Rattle.std.proofs.lemmas.List.{length-set, get_or-set_other}
 use Rattle.console.proofs.Feeding.{read_sounds}
 use Rattle.console.proofs.Spreading.{spread_sounding, spread_muted, spread_whole}
 use Rattle.console.proofs.asking.by_number.Goals as goal
-use Rattle.console.proofs.asking.by_number.Goals.{then_rule, else-rule}
+use Rattle.console.proofs.asking.by_number.Goals.{then-rule, else-rule}
 
 pub loop-number-preserved : goal.loop-number-preserved
 loop-number-preserved c =
@@ -16,7 +16,7 @@ loop-number-preserved c =
     let ws = c.args.weights.now.values in
     let room : l.number < length l.spread = omega (arith, l.invariant.0, c.loop-number-test.true, c.requires) in
     elim c.if-rule.branch [
-      | then_rule w ↦ rw (w.spread-is, w.place-is) (
+      | then-rule w ↦ rw (w.spread-is, w.place-is) (
         length-set l.spread l.number _ ∙ l.invariant.0,
         omega (arith, l.invariant.1),
         (λ k h. get_or-set_other l.spread l.number k _ (pos 0) (λ e. omega (arith, h, e)) ∙ l.invariant.2 k (omega (arith, h))),

@@ -8,13 +8,13 @@ use Rattle.plans.specs.Rules.{rule_views}
 use Rattle.plans.specs.Sounding.{sounding_rows}
 use Rattle.console.proofs.Feeding.{given_next, given_more, passed_on, read_sounds, given_row}
 use Rattle.console.proofs.asking.feed.Goals as goal
-use Rattle.console.proofs.asking.feed.Goals.{then-rule+in-ok-take, else-rule}
+use Rattle.console.proofs.asking.feed.Goals.{then-rule+in_ok-take, else-rule}
 
-pub returns-in-err-take : goal.returns-in-err-take
-returns-in-err-take g c =
+pub returns-in_err-take : goal.returns-in_err-take
+returns-in_err-take g c =
     let l = c.loop-number in
     let rules = c.args.rules.now in
-    absurd (given_row c.args.count rules l.number c.index-rules-number.result c.index-rules-number.is c.loop-number-test.true c.requires c.if-rule.true (g.E.Engine.view l.engine) (g.E.Engine.view c.take.new.self) _ l.invariant.0 c.in-err-take.ensures)
+    absurd (given_row c.args.count rules l.number c.index-rules-number.result c.index-rules-number.is c.loop-number-test.true c.requires c.if-rule.true (g.E.Engine.view l.engine) (g.E.Engine.view c.take.new.self) _ l.invariant.0 c.in_err-take.ensures)
 
 pub loop-number-preserved : goal.loop-number-preserved
 loop-number-preserved g c =
@@ -22,11 +22,11 @@ loop-number-preserved g c =
     let rules = c.args.rules.now in
     let rule = c.index-rules-number.result in
     elim c.if-rule.branch [
-      | then-rule+in-ok-take w ↦
+      | then-rule+in_ok-take w ↦
           let sounds = read_sounds rules l.number rule true c.index-rules-number.is w.if-rule.true in
           let more = given_more c.args.count rules l.number rule c.loop-number-test.true c.requires sounds in
           rw (w.engine-is, w.given-is) (
-            given_row c.args.count rules l.number rule c.index-rules-number.is c.loop-number-test.true c.requires w.if-rule.true (g.E.Engine.view l.engine) (g.E.Engine.view w.take.new.self) _ l.invariant.0 w.in-ok-take.ensures,
+            given_row c.args.count rules l.number rule c.index-rules-number.is c.loop-number-test.true c.requires w.if-rule.true (g.E.Engine.view l.engine) (g.E.Engine.view w.take.new.self) _ l.invariant.0 w.in_ok-take.ensures,
             ap (λ (n : ℕ). n + 1) l.invariant.1 ∙ sym (ap length more ∙ length-append (sounding_rows (rule_views (take l.number rules))) _),
             omega (arith, l.invariant.2),
           )

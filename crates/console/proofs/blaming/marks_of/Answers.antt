@@ -4,7 +4,7 @@ use Rattle.std.proofs.lemmas.List.{length-set, get_or-set_other}
 use Rattle.console.proofs.Feeding.{read_sounds}
 use Rattle.console.proofs.Marking.{mark_sounding, mark_muted, marks_whole}
 use Rattle.console.proofs.blaming.marks_of.Goals as goal
-use Rattle.console.proofs.blaming.marks_of.Goals.{then_rule, else-rule}
+use Rattle.console.proofs.blaming.marks_of.Goals.{then-rule, else-rule}
 
 pub loop-number-preserved : goal.loop-number-preserved
 loop-number-preserved c =
@@ -13,7 +13,7 @@ loop-number-preserved c =
     let rule = c.index-rules-number.result in
     let room : l.number < length l.marks = omega (arith, l.invariant.0, c.loop-number-test.true, c.requires) in
     elim c.if-rule.branch [
-      | then_rule w ↦ rw w.marks-is (
+      | then-rule w ↦ rw w.marks-is (
         length-set l.marks l.number _ ∙ l.invariant.0,
         (λ k h. get_or-set_other l.marks l.number k _ 0 (λ e. omega (arith, h, e)) ∙ l.invariant.1 k (omega (arith, h))),
         mark_sounding rules l.number rule c.loop-number-test.true l.marks room (read_sounds rules l.number rule true c.index-rules-number.is w.if-rule.true) l.invariant.2,

@@ -14,7 +14,7 @@ use Rattle.console.proofs.Restoring.{sounds_at, length_marked}
 use Rattle.console.proofs.Numbering.{marked_back}
 use Rattle.console.proofs.Trying.{from_here, pass_muted, still_valid, walk_over, turn_said, turn_fault, names_fault, names_final}
 use Rattle.console.proofs.blaming.walk.Goals as goal
-use Rattle.console.proofs.blaming.walk.Goals.{then-rule+in-ok-rest+then-not-is-clash, then-rule+in-ok-rest+else-not-is-clash, else-rule}
+use Rattle.console.proofs.blaming.walk.Goals.{then-rule+in_ok-rest+then-not-is_clash, then-rule+in_ok-rest+else-not-is_clash, else-rule}
 
 -- the mark of a rule that was read off the guard
 seen : (rules lent : List Rule) (i : _) (rule : Rule) (b : Bool) → lent ≡ rules → rule ≡ get_or lent i rule → rule.sounds ≡ b → (get_or rules i rule).sounds ≡ b
@@ -30,8 +30,8 @@ mute-requires g c =
       sounds = sounds_at l.guard.rules.now l.number rule h (seen l.guard.rules.now c.rules.result.now l.number rule true c.rules.ensures c.index-rules-number.is c.if-rule.true);
     }
 
-pub decide-sounding-requires : goal.decide-sounding-requires
-decide-sounding-requires g c =
+pub decide_sounding-requires : goal.decide_sounding-requires
+decide_sounding-requires g c =
     let l = c.loop-number in
     let rule = c.index-rules-number.result in
     let rules = l.guard.rules.now in
@@ -40,18 +40,18 @@ decide-sounding-requires g c =
     subst (λ (rs : List Rule). Valid c.args.count (sounding_rows (rule_views rs))) (sym (c.rules-then-rule.ensures ∙ c.mute.ensures.marks))
     (still_valid (g.E.Engine.verdict c.args.count) rules l.number rule h c.args.count e l.invariant.4)
 
-pub returns-in-err-rest : goal.returns-in-err-rest
-returns-in-err-rest g c =
+pub returns-in_err-rest : goal.returns-in_err-rest
+returns-in_err-rest g c =
     let l = c.loop-number in
     let rule = c.index-rules-number.result in
     let rules = l.guard.rules.now in
     let h : l.number < length rules = omega (arith, l.invariant.0, c.loop-number-test.true) in
     let e = seen rules c.rules.result.now l.number rule true c.rules.ensures c.index-rules-number.is c.if-rule.true in
-    let p = err_from_is_err_and c.from-residual.result c.from-residual.ensures.1 in
-    let t = turn_fault g.E.Engine.verdict g.E.Engine.cells (length l.table) c.args.count rules l.number rule h e c.rules-then-rule.result.now (c.rules-then-rule.ensures ∙ c.mute.ensures.marks) c.in-err-rest.field-0.0 (omega (arith, c.requires.room, l.auto.table)) c.in-err-rest.ensures in
+    let p = err_from_is_err_and c.from_residual.result c.from_residual.ensures.1 in
+    let t = turn_fault g.E.Engine.verdict g.E.Engine.cells (length l.table) c.args.count rules l.number rule h e c.rules-then-rule.result.now (c.rules-then-rule.ensures ∙ c.mute.ensures.marks) c.in_err-rest.field-0.0 (omega (arith, c.requires.room, l.auto.table)) c.in_err-rest.ensures in
     record {
       rules = search rules;
-      names = rw (p.1, p.2) (names_fault (Unit {0}) _ t.0 c.in-err-rest.field-0.0 c.args.marks.now (sym l.invariant.5 ∙ t.2) t.1);
+      names = rw (p.1, p.2) (names_fault (Unit {0}) _ t.0 c.in_err-rest.field-0.0 c.args.marks.now (sym l.invariant.5 ∙ t.2) t.1);
     }
 
 pub sound-requires : goal.sound-requires
@@ -74,12 +74,12 @@ loop-number-preserved g c =
     let count = c.args.count in
     let h : i < length rules = omega (arith, l.invariant.0, c.loop-number-test.true) in
     elim c.if-rule.branch [
-      | then-rule+in-ok-rest+then-not-is-clash w ↦
+      | then-rule+in_ok-rest+then-not-is_clash w ↦
           let e = seen rules c.rules.result.now i rule true c.rules.ensures c.index-rules-number.is w.if-rule.true in
           let m = w.mute.ensures in
           let s = w.sound.ensures in
           let same = s.marks ∙ ap (λ (rs : List Rule). marked rs i true) m.marks ∙ marked_back rules i rule e in
-          let turn = turn_said verdict g.E.Engine.cells (length l.table) count rules i rule h e w.rules-then-rule.result.now (w.rules-then-rule.ensures ∙ m.marks) w.in-ok-rest.rest false w.in-ok-rest.ensures (sym w.is-clash.ensures ∙ w.if-not-is-clash.true) in
+          let turn = turn_said verdict g.E.Engine.cells (length l.table) count rules i rule h e w.rules-then-rule.result.now (w.rules-then-rule.ensures ∙ m.marks) w.in_ok-rest.rest false w.in_ok-rest.ensures (sym w.is_clash.ensures ∙ w.if-not-is_clash.true) in
           rw w.guard-is (
             ap length same ∙ l.invariant.0,
             ap length (s.muted ∙ ap (λ (ms : List Bool). set ms i false) m.muted) ∙ length-set _ i false ∙ length-set l.guard.muted i true ∙ l.invariant.1,
@@ -88,10 +88,10 @@ loop-number-preserved g c =
             subst (λ (rs : List Rule). Valid count (sounding_rows (rule_views rs))) (sym same) l.invariant.4,
             ap (λ (rs : List Rule). from_here (verdict count) rs (i + 1)) same ∙ sym turn ∙ l.invariant.5,
           )
-      | then-rule+in-ok-rest+else-not-is-clash w ↦
+      | then-rule+in_ok-rest+else-not-is_clash w ↦
           let e = seen rules c.rules.result.now i rule true c.rules.ensures c.index-rules-number.is w.if-rule.true in
           let m = w.mute.ensures in
-          let turn = turn_said verdict g.E.Engine.cells (length l.table) count rules i rule h e w.rules-then-rule.result.now (w.rules-then-rule.ensures ∙ m.marks) w.in-ok-rest.rest true w.in-ok-rest.ensures (sym w.is-clash.ensures ∙ w.if-not-is-clash.false) in
+          let turn = turn_said verdict g.E.Engine.cells (length l.table) count rules i rule h e w.rules-then-rule.result.now (w.rules-then-rule.ensures ∙ m.marks) w.in_ok-rest.rest true w.in_ok-rest.ensures (sym w.is_clash.ensures ∙ w.if-not-is_clash.false) in
           rw w.guard-is (
             ap length m.marks ∙ length_marked rules i false ∙ l.invariant.0,
             ap length m.muted ∙ length-set l.guard.muted i true ∙ l.invariant.1,
@@ -111,5 +111,5 @@ returns g c =
     let rules = l.guard.rules.now in
     record {
       rules = search rules;
-      names = names_final _ _ c.args.marks.now c.marks-of.result (sym l.invariant.5 ∙ walk_over (g.E.Engine.verdict c.args.count) rules l.number (omega (arith, l.invariant.0, c.loop-number-test.false))) (c.marks-of.ensures ∙ ap (λ (rs : List Rule). marks_from most_rows 0 (numbers_of (numbered 0 (rule_views rs)))) c.rules-2.ensures);
+      names = names_final _ _ c.args.marks.now c.marks_of.result (sym l.invariant.5 ∙ walk_over (g.E.Engine.verdict c.args.count) rules l.number (omega (arith, l.invariant.0, c.loop-number-test.false))) (c.marks_of.ensures ∙ ap (λ (rs : List Rule). marks_from most_rows 0 (numbers_of (numbered 0 (rule_views rs)))) c.rules-2.ensures);
     }

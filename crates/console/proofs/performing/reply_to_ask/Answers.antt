@@ -25,7 +25,7 @@ returns-then-sheet-eq0 g c =
     let o = first_refusal (closed_refusal (plan_view p)) (table_refusal g.E.Engine.cells (length c.args.table.now)) in
     let e = ap (λ (b : Bool). cond b (Reply.clash (take (length (plan_view p).rules) t.weights)) (Reply.preset (take p.count t.numerators) t.denominator)) (eq-eqb t.denominator 0 c.if-sheet-eq0.true)
     ∙ ap (λ (n : ℕ). Reply.clash (take n t.weights)) (length_rules p) in
-    let told = ask_replied g.E.Engine.verdict g.E.Engine.cells (length c.args.table.now) (plan_view p) c.blank-sheet.result t (Ok c.in-default.field-0) (sounding_valid p) (g.met.E.Engine.sound p.count) c.in-default.ensures in
+    let told = ask_replied g.E.Engine.verdict g.E.Engine.cells (length c.args.table.now) (plan_view p) c.blank-sheet.result t (Ok c.in_default.field-0) (sounding_valid p) (g.met.E.Engine.sound p.count) c.in_default.ensures in
     record { reply = subst (λ (r : Reply). unless o r (AskLaw g.E.Engine.verdict (plan_view p) r)) e told.0; exact = sym e ∙ told.1 }
 
 pub returns : goal.returns
@@ -34,5 +34,5 @@ returns g c =
     let t = c.ask.new.sheet in
     let o = first_refusal (closed_refusal (plan_view p)) (table_refusal g.E.Engine.cells (length c.args.table.now)) in
     let e = ap (λ (b : Bool). cond b (Reply.clash (take (length (plan_view p).rules) t.weights)) (Reply.preset (take p.count t.numerators) t.denominator)) (ne_eqb t.denominator 0 c.if-sheet-eq0.false) in
-    let told = ask_replied g.E.Engine.verdict g.E.Engine.cells (length c.args.table.now) (plan_view p) c.blank-sheet.result t (Ok c.in-default.field-0) (sounding_valid p) (g.met.E.Engine.sound p.count) c.in-default.ensures in
+    let told = ask_replied g.E.Engine.verdict g.E.Engine.cells (length c.args.table.now) (plan_view p) c.blank-sheet.result t (Ok c.in_default.field-0) (sounding_valid p) (g.met.E.Engine.sound p.count) c.in_default.ensures in
     record { reply = subst (λ (r : Reply). unless o r (AskLaw g.E.Engine.verdict (plan_view p) r)) e told.0; exact = sym e ∙ told.1 }

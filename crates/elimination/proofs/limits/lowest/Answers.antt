@@ -7,7 +7,7 @@ use Rattle.rows.proofs.Blends.{some_narrowed, none_narrowed, near_within}
 use Rattle.elimination.specs.Table.{near}
 use Rattle.elimination.specs.Levels.{Limit, lowest}
 use Rattle.elimination.proofs.limits.lowest.Goals as goal
-use Rattle.elimination.proofs.limits.lowest.Goals.{in-Some, in-Some-narrow-2}
+use Rattle.elimination.proofs.limits.lowest.Goals.{In-Some, In-Some-narrow-2}
 
 -- m over o are the lowest terms of n over d
 module _ (n : ℤ) (d : ℕ) (s : Bool) (m o : ℤ) (em : m ≡ lowest_numerator n (pos d)) (eo : o ≡ lowest_denominator n (pos d)) where
@@ -28,7 +28,7 @@ record Known (n : ℤ) (d : ℕ) (m o : ℤ) : Type 0 where
   fits_m : SFits w64 m
   fits_o : SFits w64 o
 
-known : (c : in-Some) → Known c.args.numerator c.args.denominator c.in-Some.fraction.numerator c.in-Some.fraction.denominator
+known : (c : In-Some) → Known c.args.numerator c.args.denominator c.in-Some.fraction.numerator c.in-Some.fraction.denominator
 known c =
     let fn : SFits w64 c.args.numerator = c.ranges.numerator in
     let e : to_z w64 c.args.denominator ≡ pos c.args.denominator = to_z_pos w64 c.args.denominator c.requires.1 in
@@ -69,7 +69,7 @@ record Narrow (m o a b : ℤ) : Type 0 where
   fits_a : SFits w32 a
   fits_b : SFits w32 b
 
-narrow : (c : in-Some-narrow-2) → Narrow c.in-Some.fraction.numerator c.in-Some.fraction.denominator c.in-Some-narrow.above c.in-Some-narrow-2.below
+narrow : (c : In-Some-narrow-2) → Narrow c.in-Some.fraction.numerator c.in-Some.fraction.denominator c.in-Some-narrow.above c.in-Some-narrow-2.below
 narrow c =
     let fm : SFits w64 c.in-Some.fraction.numerator = search rules in
     let fo : SFits w64 c.in-Some.fraction.denominator = search rules in
