@@ -4,7 +4,7 @@
 mod bests;
 pub mod cell;
 mod choosing;
-pub mod engine;
+pub mod eliminating;
 mod filling;
 mod levels;
 mod limit;
@@ -19,5 +19,5 @@ mod tighter;
 mod values;
 
 pub use cell::Cell;
-pub use engine::Elimination;
+pub use eliminating::Elimination;
 pub use table::ROOM;

@@ -1,6 +1,6 @@
 // Plans of one and two faders, and one that fills the table.
 use crate::cell::Cell;
-use crate::engine::Elimination;
+use crate::eliminating::Elimination;
 use crate::table::ROOM;
 use engine::fault::{FORM, TABLE};
 use engine::{Engine, Fault, Refusal};

@@ -6,7 +6,7 @@ pub mod list;
 pub mod plan;
 pub mod plans;
 pub mod ranges;
-pub mod rows;
+pub mod row_of_rule;
 pub mod rule;
 pub mod sounding;
 #[cfg(test)]

@@ -5,7 +5,7 @@ ghost use Rattle.plans.specs.Edits.{Opened, Added, Lifted, Marked, already as al
 
 use crate::kinds::kind_of;
 use crate::plan::Plan;
-use crate::rows::checked_row;
+use crate::row_of_rule::checked_row;
 use crate::rule::Rule;
 use engine::refusal::Refusal;
 use rows::bounds::{FADERS, ROWS};

@@ -2,10 +2,10 @@
 // It sees the crates `elimination`, `engine`, `integers`, `rows` and `substitution`.
 #![tactic(auto)]
 
-pub mod engine;
+pub mod sold;
 pub mod samples;
 pub mod small;
 #[cfg(test)]
 mod tests;
 
-pub use engine::{SoldEngine, new_engine, new_table};
+pub use sold::{SoldEngine, new_engine, new_table};

@@ -2,9 +2,9 @@
 #![tactic(auto)]
 
 mod below;
-pub mod engine;
 mod filling;
 mod kept;
+pub mod layer;
 mod levels;
 mod lifting;
 mod outcome;
@@ -12,4 +12,4 @@ mod pivoting;
 mod reducing;
 pub mod rightness;
 
-pub use engine::Substitution;
+pub use layer::Substitution;

@@ -50,7 +50,11 @@ returns-in_err-rest g c =
     let p = err_from_is_err_and c.from_residual.result c.from_residual.ensures.1 in
     let t = turn_fault g.E.Engine.verdict g.E.Engine.cells (length l.table) c.args.count rules l.number rule h e c.rules-then-rule.result.now (c.rules-then-rule.ensures ∙ c.mute.ensures.marks) c.in_err-rest.field-0.0 (omega (arith, c.requires.room, l.auto.table)) c.in_err-rest.ensures in
     record {
-      rules = search rules;
+      rules =
+        let m = c.mute.ensures in
+        let name = sym (m.same ∙ l.invariant.3) in
+        let back = c.drop-guard.ensures ∙ m.back ∙ l.invariant.2 in
+        grind (arith, name, back);
       names = rw (p.1, p.2) (names_fault (Unit {0}) _ t.0 c.in_err-rest.field-0.0 c.args.marks.now (sym l.invariant.5 ∙ t.2) t.1);
     }
 
@@ -110,6 +114,6 @@ returns g c =
     let l = c.loop-number in
     let rules = l.guard.rules.now in
     record {
-      rules = search rules;
+      rules = let name = sym l.invariant.3 in let back = c.drop-guard-2.ensures ∙ l.invariant.2 in grind (arith, name, back);
       names = names_final _ _ c.args.marks.now c.marks_of.result (sym l.invariant.5 ∙ walk_over (g.E.Engine.verdict c.args.count) rules l.number (omega (arith, l.invariant.0, c.loop-number-test.false))) (c.marks_of.ensures ∙ ap (λ (rs : List Rule). marks_from most_rows 0 (numbers_of (numbered 0 (rule_views rs)))) c.rules-2.ensures);
     }

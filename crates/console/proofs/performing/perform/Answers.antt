@@ -6,7 +6,7 @@ use Rattle.engine.specs.declared.refusal.Refusal.{Refusal}
 use Rattle.engine.specs.Verdicts.{Verdict}
 use Rattle.engine.specs.Interface.{count_refusal}
 use Rattle.plans.specs.Plans.{PlanView, plan_view}
-use Rattle.plans.specs.Edits.{Added, after-open, add_refusal, after-add, lift_refusal, after-lift, mark_refusal, after_mark}
+use Rattle.plans.specs.Edits.{Added, after_open, add_refusal, after_add, lift_refusal, after_lift, mark_refusal, after_mark}
 use Rattle.console.specs.declared.command.Command.{Command}
 use Rattle.console.specs.declared.command.Command.TheVariants.{Open, Add, Lift, Mute, Sound}
 use Rattle.console.specs.Replies.{Reply, reply_view}
@@ -27,7 +27,7 @@ pub returns-in-Open : goal.returns-in-Open
 returns-in-Open g c =
     let p = plan_view c.args.plan.now in
     let q = plan_view c.«open».new.self in
-    let e = edit_replied (count_refusal c.in-Open.count) (after-open c.in-Open.count) p q c.«open».result c.«open».ensures in
+    let e = edit_replied (count_refusal c.in-Open.count) (after_open c.in-Open.count) p q c.«open».result c.«open».ensures in
     let same = c.done.ensures ∙ e.0 in
     let m = matched g.E.Engine.verdict (table_refusal g.E.Engine.cells (length c.args.table.now)) p q c.args.command (Open c.in-Open.count) (reply_view c.done.result) c.in-Open.is e.1 same same in
     record { plan = m.0; reply = m.1; exact = m.2 }
@@ -41,7 +41,7 @@ returns-in-Add g c =
     let s = c.in-Add.side in
     let fs : SFits w32 s = search rules in
     let added : Added kind cs s p c.add.result q = simp to_z-of_z at c.add.ensures in
-    let e = edit_replied (add_refusal kind cs s p) (after-add kind cs s p) p q c.add.result (added) in
+    let e = edit_replied (add_refusal kind cs s p) (after_add kind cs s p) p q c.add.result (added) in
     let same = c.done-in-Add.ensures ∙ e.0 in
     let m = matched g.E.Engine.verdict (table_refusal g.E.Engine.cells (length c.args.table.now)) p q c.args.command (Add kind cs s) (reply_view c.done-in-Add.result) c.in-Add.is e.1 same same in
     record { plan = m.0; reply = m.1; exact = m.2 }
@@ -50,7 +50,7 @@ pub returns-in-Lift : goal.returns-in-Lift
 returns-in-Lift g c =
     let p = plan_view c.args.plan.now in
     let q = plan_view c.lift.new.self in
-    let e = edit_replied (lift_refusal p) (after-lift p) p q c.lift.result c.lift.ensures in
+    let e = edit_replied (lift_refusal p) (after_lift p) p q c.lift.result c.lift.ensures in
     let same = c.done-in-Lift.ensures ∙ e.0 in
     let m = matched g.E.Engine.verdict (table_refusal g.E.Engine.cells (length c.args.table.now)) p q c.args.command (Lift) (reply_view c.done-in-Lift.result) c.in-Lift.is e.1 same same in
     record { plan = m.0; reply = m.1; exact = m.2 }

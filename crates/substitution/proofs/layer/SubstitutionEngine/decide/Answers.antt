@@ -3,7 +3,7 @@ use Rattle.engine.specs.Interface.{decide_refusal}
 use Rattle.engine.specs.States.{state_view}
 use Rattle.engine.proofs.Answered.{decides}
 use Rattle.substitution.specs.Working.{substitution_verdict}
-use Rattle.substitution.proofs.engine.SubstitutionEngine.decide.Goals as goal
+use Rattle.substitution.proofs.layer.SubstitutionEngine.decide.Goals as goal
 
 pub returns : goal.returns
 returns g c =

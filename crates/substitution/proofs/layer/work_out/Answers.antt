@@ -7,7 +7,7 @@ use Rattle.substitution.specs.Reduction.{Reduced.clashing, Reduced.faulty, Reduc
 use Rattle.substitution.specs.Holding.{kepts, latest_first}
 use Rattle.substitution.specs.Outcomes.{finished}
 use Rattle.substitution.proofs.Returning.{left_valid, worked_out}
-use Rattle.substitution.proofs.engine.work_out.Goals as goal
+use Rattle.substitution.proofs.layer.work_out.Goals as goal
 
 pub returns-in_err-weights : goal.returns-in_err-weights
 returns-in_err-weights g c =

@@ -3,7 +3,7 @@ use Rattle.std.proofs.lemmas.Int.{to_z-of_z, ints}
 use Rattle.std.proofs.lemmas.List.{length-set, take_all, take_more, take_more_set}
 use Rattle.rows.specs.Limits.{Within}
 use Rattle.rows.proofs.Fits.{zeros_within, within_set}
-use Rattle.plans.proofs.rows.widened.Goals as goal
+use Rattle.plans.proofs.row_of_rule.widened.Goals as goal
 
 pub loop-k-init : goal.loop-k-init
 loop-k-init c = (refl, refl, zeros_within 6)

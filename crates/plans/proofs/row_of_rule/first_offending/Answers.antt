@@ -2,7 +2,7 @@ use Rattle.std.proofs.Common.{◌≡◌, true, false, get_or, pos, sym, ◌∙�
 use Rattle.std.proofs.lemmas.Int.{to_z-of_z}
 use Rattle.plans.specs.Edits.{offends}
 use Rattle.plans.proofs.Offending.{offending_at, offending_none}
-use Rattle.plans.proofs.rows.first_offending.Goals as goal
+use Rattle.plans.proofs.row_of_rule.first_offending.Goals as goal
 
 pub returns-then-is_offending : goal.returns-then-is_offending
 returns-then-is_offending c =

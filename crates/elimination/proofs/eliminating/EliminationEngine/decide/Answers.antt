@@ -3,7 +3,7 @@ use Rattle.engine.proofs.Answered.{decides}
 use Rattle.elimination.specs.Table.{room}
 use Rattle.elimination.specs.Working.{elimination_verdict}
 use Rattle.std.proofs.Common.{length}
-use Rattle.elimination.proofs.engine.EliminationEngine.decide.Goals as goal
+use Rattle.elimination.proofs.eliminating.EliminationEngine.decide.Goals as goal
 
 pub returns : goal.returns
 returns c =
