@@ -1,6 +1,6 @@
 -- What `first_line` leaves to show. Assumes nothing.
-use Rattle.std.proofs.Common.{◌≡◌, ℕ, ◌-◌, ◌<◌, ◌≤◌, List, [], ◌∷◌, length, take, drop, sym, ap, ◌∙◌, arith, true-eqb, false-eqb}
-use Rattle.std.proofs.lemmas.List.{nil_from_length, take_all, length-drop, length-take}
+use Rattle.std.proofs.Common.{◌≡◌, ℕ, ◌-◌, ◌<◌, List, ◌∷◌, length, drop, sym, ap, ◌∙◌, arith, true-eqb, false-eqb}
+use Rattle.std.proofs.lemmas.List.{nil_from_length, take_all, length-drop}
 use Rattle.plantext.specs.Cuts.{lines}
 use Rattle.plantext.proofs.Lining.{lines_cut}
 use Rattle.plantext.proofs.cut.first_line.Goals as goal
