@@ -36,4 +36,7 @@ returns c =
     let fewer = length-drop c.line_len.result text in
     let same : length back ≡ length (drop c.line_len.result text) = ap length c.split_at.ensures.back in
     let less : length (drop 1 back) < length text = omega arith in
-    rw whole (record { cut = e; shorter = less })
+    record {
+      cut = e ∙ ap (λ (bs : List ℕ). c.split_at.result.0.now ∷ lines bs) (sym whole);
+      shorter = rw whole less;
+    }
