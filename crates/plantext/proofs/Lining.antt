@@ -1,5 +1,5 @@
 -- What the first line of a text is. Assumes nothing.
-use Rattle.std.proofs.Common.{◌≡◌, ℕ, ◌+◌, ◌<◌, Bool, true, false, eqb, List, [], ◌∷◌, ◌++◌, length, take, drop, sym, refl, ap, ◌∙◌, append_assoc, append-nil, add-zero, zero-add, one-add, arith}
+use Rattle.std.proofs.Common.{◌≡◌, ℕ, ◌<◌, Bool, true, false, eqb, List, [], ◌∷◌, ◌++◌, length, take, drop, sym, refl, ap, append_assoc, append-nil, one-add, arith}
 use Rattle.std.specs.List.{prefix_len}
 use Rattle.plantext.specs.Cuts.{unbroken, lines, lines_after}
 

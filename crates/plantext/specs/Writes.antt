@@ -1,7 +1,7 @@
 -- The text of a statement, and that a statement is what its own text says. Assumes nothing.
 use Rattle.std.specs.Prelude.{◌≡◌, ℕ, ◌-◌, ◌<◌, ◌≤◌, List, [], ◌∷◌, ◌++◌, map, length, take, drop, replicate, ℤ, pos, Ok, codes, unsigned_abs}
 use Rattle.std.specs.Fmt.{signed_decimal}
-use Rattle.std.specs.List.{AllByRecursion as All}
+use Rattle.std.specs.List.{AllByRecursion}
 use Rattle.plantext.specs.Grammar.{statement_of}
 use Rattle.plantext.specs.declared.statement.Comparison.{Comparison}
 use Rattle.plantext.specs.declared.statement.Comparison.TheVariants.{AtMost, Below, Equal}
@@ -45,7 +45,7 @@ Small z = unsigned_abs z < 1000000000000
 pub record Proper (ns : Numbers) : Type 0 where
   pub room : ns.len ≤ 16
   pub size : length ns.values ≡ 16
-  pub small : All Small (listed ns)
+  pub small : AllByRecursion Small (listed ns)
   pub zeros : drop ns.len ns.values ≡ replicate (16 - ns.len) (pos 0)
 
 -- all numbers of the statement are small

@@ -6,12 +6,12 @@ use Rattle.plantext.proofs.cut.white_len.Goals as goal
 
 pub loop-n-preserved : goal.loop-n-preserved
 loop-n-preserved c =
-    let e = prefix_len-drop_yes white c.args.text.now c.loop-n.n 0 c.loop-n-test.true (sym c.if-is-white.ensures) in
+    let e = prefix_len-drop_yes white c.args.text.now c.loop-n.n 0 c.loop-n-test.true (sym c.if-is_white.ensures) in
     omega arith
 
-pub returns-else-is-white : goal.returns-else-is-white
-returns-else-is-white c =
-    let e = prefix_len-drop_no white c.args.text.now c.loop-n.n 0 c.loop-n-test.true (sym c.if-is-white.ensures) in
+pub returns-else-is_white : goal.returns-else-is_white
+returns-else-is_white c =
+    let e = prefix_len-drop_no white c.args.text.now c.loop-n.n 0 c.loop-n-test.true (sym c.if-is_white.ensures) in
     omega arith
 
 pub returns-after-loop-n : goal.returns-after-loop-n

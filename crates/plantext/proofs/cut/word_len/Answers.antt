@@ -6,12 +6,12 @@ use Rattle.plantext.proofs.cut.word_len.Goals as goal
 
 pub loop-n-preserved : goal.loop-n-preserved
 loop-n-preserved c =
-    let e = prefix_len-drop_yes dark c.args.text.now c.loop-n.n 0 c.loop-n-test.true (ap not (sym c.if-not-is-white.ensures)) in
+    let e = prefix_len-drop_yes dark c.args.text.now c.loop-n.n 0 c.loop-n-test.true (ap not (sym c.if-not-is_white.ensures)) in
     omega arith
 
-pub returns-else-not-is-white : goal.returns-else-not-is-white
-returns-else-not-is-white c =
-    let e = prefix_len-drop_no dark c.args.text.now c.loop-n.n 0 c.loop-n-test.true (ap not (sym c.if-not-is-white.ensures)) in
+pub returns-else-not-is_white : goal.returns-else-not-is_white
+returns-else-not-is_white c =
+    let e = prefix_len-drop_no dark c.args.text.now c.loop-n.n 0 c.loop-n-test.true (ap not (sym c.if-not-is_white.ensures)) in
     omega arith
 
 pub returns-after-loop-n : goal.returns-after-loop-n

@@ -5,13 +5,13 @@ use Rattle.std.specs.Str.{all_ascii_digits}
 use Rattle.plantext.proofs.Spelt.{all_digits_on, all_digits_not}
 use Rattle.plantext.proofs.spelling.all_digits.Goals as goal
 
-pub returns-then-not-is-ascii-digit : goal.returns-then-not-is-ascii-digit
-returns-then-not-is-ascii-digit c =
-    sym (all_digits_not c.args.bytes.now c.loop-b.b-index c.loop-b-test.true (sym c.if-not-is-ascii-digit.ensures.value)) ∙ c.loop-b.invariant
+pub returns-then-not-is_ascii_digit : goal.returns-then-not-is_ascii_digit
+returns-then-not-is_ascii_digit c =
+    sym (all_digits_not c.args.bytes.now c.loop-b.b-index c.loop-b-test.true (sym c.if-not-is_ascii_digit.ensures.value)) ∙ c.loop-b.invariant
 
 pub loop-b-preserved : goal.loop-b-preserved
 loop-b-preserved c =
-    all_digits_on c.args.bytes.now c.loop-b.b-index c.loop-b-test.true (sym c.if-not-is-ascii-digit.ensures.value) ∙ c.loop-b.invariant
+    all_digits_on c.args.bytes.now c.loop-b.b-index c.loop-b-test.true (sym c.if-not-is_ascii_digit.ensures.value) ∙ c.loop-b.invariant
 
 pub returns : goal.returns
 returns c = sym (at_drop_all all_ascii_digits c.args.bytes.now c.loop-b.b-index c.loop-b-test.false) ∙ c.loop-b.invariant

@@ -5,14 +5,14 @@ use Rattle.std.specs.Str.Parse.{digits_value}
 use Rattle.plantext.proofs.Spelt.{digit_in, value_small, value_next, digits_next}
 use Rattle.plantext.proofs.spelling.value_of.Goals as goal
 
-pub overflow-mul-n : goal.overflow-mul-n
-overflow-mul-n c = let v = value_small c.args.digits.now c.loop-b.b-index c.loop-b.invariant.1 (omega arith) in search rules
+pub overflow_mul-n : goal.overflow_mul-n
+overflow_mul-n c = let v = value_small c.args.digits.now c.loop-b.b-index c.loop-b.invariant.1 (omega arith) in search rules
 
-pub overflow-sub-b : goal.overflow-sub-b
-overflow-sub-b c = (digit_in c.args.digits.now c.loop-b.b-index c.requires.digits c.loop-b-test.true).0
+pub overflow_sub-b : goal.overflow_sub-b
+overflow_sub-b c = (digit_in c.args.digits.now c.loop-b.b-index c.requires.digits c.loop-b-test.true).0
 
-pub overflow-add-n : goal.overflow-add-n
-overflow-add-n c =
+pub overflow_add-n : goal.overflow_add-n
+overflow_add-n c =
     let v = value_small c.args.digits.now c.loop-b.b-index c.loop-b.invariant.1 (omega arith) in
     let d = digit_in c.args.digits.now c.loop-b.b-index c.requires.digits c.loop-b-test.true in
     search rules

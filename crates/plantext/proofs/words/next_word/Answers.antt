@@ -7,7 +7,7 @@ use Rattle.plantext.proofs.words.next_word.Goals as goal
 pub returns-in-Some : goal.returns-in-Some
 unfolding words_of
 returns-in-Some c = record {
-  word = ap (map word_of) c.in-Some.ensures.cut ∙ ap (λ w. w ∷ words_of c.in-Some.rest.now) (sym c.read-word.ensures);
+  word = ap (map word_of) c.in-Some.ensures.cut ∙ ap (λ w. w ∷ words_of c.in-Some.rest.now) (sym c.read_word.ensures);
   shorter = c.in-Some.ensures.shorter;
 }
 
