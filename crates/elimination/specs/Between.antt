@@ -2,7 +2,7 @@
 use Rattle.std.specs.Prelude.{◌≡◌, ℕ, ◌+◌, ◌*◌, ◌<◌, ◌≤◌, Bool, true, false, cond, not, ◌&&◌, ◌||◌, List, [], ◌∷◌, ℤ, pos, negsuc, ◌+ℤ◌, ◌-ℤ◌, ◌*ℤ◌, ◌<ℤ◌, Some, int_lt, unsigned_abs, refl}
 use Rattle.std.proofs.Common.{sym, ap, subst, ◌∙◌, arith, mul-pos}
 use borrow.Author.Differences.{lt-true, lt-false}
-use Rattle.std.specs.List.{AllByRecursion as All, best_of}
+use Rattle.std.specs.List.{AllByRecursion, best_of}
 use Rattle.std.proofs.lemmas.Bool.{false≢true, true≢false}
 use Rattle.integers.specs.Fractions.{lowest_numerator, lowest_denominator}
 use Rattle.integers.proofs.Laws.{+ℤ-*ℤ, -ℤ-*ℤ}
@@ -109,7 +109,7 @@ module _ (p : ℤ) (q : ℕ) (pq : 0 < q) where
 
 -- what is within the best is within each, for a test by which the better limit is the tighter
 module _ (better : Limit → Limit → Bool) (In : Limit → Type 0) (tight : (x y : Limit) → Proper x → Proper y → better x y ≡ true → In x → In y) (loose : (x y : Limit) → Proper x → Proper y → better x y ≡ false → In y → In x) where
-  best_within : (l : Limit) (ms : List Limit) → Proper l → All Proper ms → In (best_of better l ms) → All In (l ∷ ms)
+  best_within : (l : Limit) (ms : List Limit) → Proper l → AllByRecursion Proper ms → In (best_of better l ms) → AllByRecursion In (l ∷ ms)
   best_within l [] pl pm h = (h, tt)
   best_within l (m ∷ ms) pl pm h = by (better m l) refl (best_within (cond (better m l) m l) ms (kept (better m l)) pm.1 h)
     where
@@ -117,7 +117,7 @@ module _ (better : Limit → Limit → Bool) (In : Limit → Type 0) (tight : (x
       kept true = pm.0
       kept false = pl
 
-      by : (b : Bool) → better m l ≡ b → All In (cond b m l ∷ ms) → All In (l ∷ m ∷ ms)
+      by : (b : Bool) → better m l ≡ b → AllByRecursion In (cond b m l ∷ ms) → AllByRecursion In (l ∷ m ∷ ms)
       by true e k = (tight m l pm.0 pl e k.0, (k.0, k.1))
       by false e k = (k.0, (loose m l pm.0 pl e k.0, k.1))
 
@@ -160,17 +160,17 @@ beyond_high false b m pm = omega (arith, linear)
 
 pub record Between (v : Limit) (ls us : List Limit) : Type 0 where
   pub some : 0 < v.denominator
-  pub low : All (λ l. Above l v.numerator v.denominator) ls
-  pub high : All (λ u. Below u v.numerator v.denominator) us
+  pub low : AllByRecursion (λ l. Above l v.numerator v.denominator) ls
+  pub high : AllByRecursion (λ u. Below u v.numerator v.denominator) us
 
 module _ (v : Limit) (pv : 0 < v.denominator) where
-  lows : (l : Limit) (ls : List Limit) → Proper l → All Proper ls → Above (best_of better_lower l ls) v.numerator v.denominator → All (λ x. Above x v.numerator v.denominator) (l ∷ ls)
+  lows : (l : Limit) (ls : List Limit) → Proper l → AllByRecursion Proper ls → Above (best_of better_lower l ls) v.numerator v.denominator → AllByRecursion (λ x. Above x v.numerator v.denominator) (l ∷ ls)
   lows l ls pl ps h = best_within better_lower (λ x. Above x v.numerator v.denominator) (lower_tight v.numerator v.denominator pv) (lower_loose v.numerator v.denominator pv) l ls pl ps h
 
-  highs : (u : Limit) (us : List Limit) → Proper u → All Proper us → Below (best_of better_upper u us) v.numerator v.denominator → All (λ x. Below x v.numerator v.denominator) (u ∷ us)
+  highs : (u : Limit) (us : List Limit) → Proper u → AllByRecursion Proper us → Below (best_of better_upper u us) v.numerator v.denominator → AllByRecursion (λ x. Below x v.numerator v.denominator) (u ∷ us)
   highs u us pu ps h = best_within better_upper (λ x. Below x v.numerator v.denominator) (upper_tight v.numerator v.denominator pv) (upper_loose v.numerator v.denominator pv) u us pu ps h
 
-pub between : (ls us : List Limit) (v : Limit) → All Proper ls → All Proper us → All (λ u. All (λ l. Room l u) ls) us → value (first_best better_lower ls) (first_best better_upper us) ≡ Some v → Between v ls us
+pub between : (ls us : List Limit) (v : Limit) → AllByRecursion Proper ls → AllByRecursion Proper us → AllByRecursion (λ u. AllByRecursion (λ l. Room l u) ls) us → value (first_best better_lower ls) (first_best better_upper us) ≡ Some v → Between v ls us
 between [] [] v pl pu f e = record { some = (lowered (pos 0) 1 false v (omega arith) e).some; low = tt; high = tt }
 between (l ∷ ls) [] v pl pu f e =
     let b = best_of better_lower l ls in
@@ -197,7 +197,7 @@ between (l ∷ ls) (u ∷ us) v pl pu f e =
     let b = best_of better_upper u us in
     let pa : Proper a = best_in Proper better_lower l ls pl.0 pl.1 in
     let pb : Proper b = best_in Proper better_upper u us pu.0 pu.1 in
-    let g : All (λ x. Room x b) (l ∷ ls) = best_in (λ y. All (λ x. Room x y) (l ∷ ls)) better_upper u us f.0 f.1 in
+    let g : AllByRecursion (λ x. Room x b) (l ∷ ls) = best_in (λ y. AllByRecursion (λ x. Room x y) (l ∷ ls)) better_upper u us f.0 f.1 in
     let h : Room a b = best_in (λ x. Room x b) better_lower l ls g.0 g.1 in
     let n = a.numerator *ℤ pos b.denominator +ℤ b.numerator *ℤ pos a.denominator in
     let d = 2 * (a.denominator * b.denominator) in

@@ -3,7 +3,7 @@ use Rattle.std.specs.Prelude.{◌≡◌, ℕ, zero, suc, ◌*◌, ◌/◌, ◌<�
 use Rattle.std.proofs.Common.{sym, ap, subst, subst₂, ◌∙◌, arith}
 use Rattle.std.specs.Int.{◌∣◌}
 use Rattle.std.proofs.Math.IntN.{*ℤ-zero, zero-*ℤ, *ℤ_comm}
-use Rattle.std.specs.List.{AllByRecursion as All}
+use Rattle.std.specs.List.{AllByRecursion}
 use Rattle.std.proofs.lemmas.List.{length-set, get_or-set_other}
 use Rattle.std.proofs.lemmas.Bool.{and_parts, leb-true}
 use Rattle.integers.specs.Vectors.{dot, scale}
@@ -48,7 +48,7 @@ length_scale w (x ∷ xs) = ap suc (length_scale w xs)
 
 -- ---- the same levels over the least denominator
 
-multiplied_back : (g : ℕ) (ns : List ℤ) → All (λ n. g ∣ unsigned_abs n) ns → scale (pos g) (divided g ns) ≡ ns
+multiplied_back : (g : ℕ) (ns : List ℤ) → AllByRecursion (λ n. g ∣ unsigned_abs n) ns → scale (pos g) (divided g ns) ≡ ns
 multiplied_back g [] h = refl
 multiplied_back g (n ∷ ns) h = λ i. (*ℤ_comm (pos g) (int_div n (pos g)) ∙ quot_exact n g h.0) i ∷ multiplied_back g ns h.1 i
 

@@ -1,7 +1,7 @@
 -- A fader set within the limits of its lines: if the levels meet the lines that stand after the fader's elimination, the new levels meet those that stood before it. Assumes nothing.
 use Rattle.std.specs.Prelude.{◌≡◌, ℕ, ◌*◌, ◌<◌, Bool, true, false, ◌&&◌, ◌||◌, ◌⊎◌, List, [], ◌∷◌, map, length, get_or, ℤ, pos, negsuc, neg_ℤ, Some, None, Option, nat_lt, slice_index_or, unsigned_abs, refl}
 use Rattle.std.proofs.Common.{sym, subst, subst₂, inl, inr, mul-pos}
-use Rattle.std.specs.List.{AllByRecursion as All}
+use Rattle.std.specs.List.{AllByRecursion}
 use Rattle.std.proofs.lemmas.Bool.{true≢false, and_parts, and_from, cases_Bool}
 use Rattle.std.proofs.ByRecursion.{All-weaker, kept_by_passes}
 use Rattle.elimination.specs.Table.{Line, coefficient, stands, is_positive, is_negative, uppers, lowers, size, combined, pairs, set_aside}
@@ -33,13 +33,13 @@ limited f (r ∷ rs) ls e =
     let a = also_some (f r) (limits f rs) ls e in
     subst (Limited f (r ∷ rs)) a.4 (a.2, limited f rs a.1 a.3)
 
-limited_to : (f : Line → Option Limit) (P : Line → Type 0) (Q : Limit → Type 0) → ((r : Line) (l : Limit) → f r ≡ Some l → P r → Q l) → (rs : List Line) (ls : List Limit) → Limited f rs ls → All P rs → All Q ls
+limited_to : (f : Line → Option Limit) (P : Line → Type 0) (Q : Limit → Type 0) → ((r : Line) (l : Limit) → f r ≡ Some l → P r → Q l) → (rs : List Line) (ls : List Limit) → Limited f rs ls → AllByRecursion P rs → AllByRecursion Q ls
 limited_to f P Q g [] [] h p = tt
 limited_to f P Q g [] (l ∷ ls) h p = absurd h
 limited_to f P Q g (r ∷ rs) [] h p = absurd h
 limited_to f P Q g (r ∷ rs) (l ∷ ls) h p = (g r l h.0 p.0, limited_to f P Q g rs ls h.1 p.1)
 
-limited_from : (f : Line → Option Limit) (P : Line → Type 0) (Q : Limit → Type 0) → ((r : Line) (l : Limit) → f r ≡ Some l → Q l → P r) → (rs : List Line) (ls : List Limit) → Limited f rs ls → All Q ls → All P rs
+limited_from : (f : Line → Option Limit) (P : Line → Type 0) (Q : Limit → Type 0) → ((r : Line) (l : Limit) → f r ≡ Some l → Q l → P r) → (rs : List Line) (ls : List Limit) → Limited f rs ls → AllByRecursion Q ls → AllByRecursion P rs
 limited_from f P Q g [] [] h q = tt
 limited_from f P Q g [] (l ∷ ls) h q = absurd h
 limited_from f P Q g (r ∷ rs) [] h q = absurd h
@@ -120,7 +120,7 @@ pub record Set (k : ℕ) (x y : Levels) : Type 0 where
 abbrev pub found : ℕ → Levels → List Line → Option Limit
 found k x t = chosen (limits (lower_limit k x) (lowers k t)) (limits (upper_limit k x) (uppers k t))
 
-pub extends : (k : ℕ) (t : List Line) (x y : Levels) → 0 < x.denominator → k < length x.numerators → slice_index_or x.numerators k (pos 0) ≡ pos 0 → All (Met x) (map (set_aside k) t) → All (Met x) (sums_of k t) → placed k x (found k x t) ≡ Some y → Set k x y × All (Met y) t
+pub extends : (k : ℕ) (t : List Line) (x y : Levels) → 0 < x.denominator → k < length x.numerators → slice_index_or x.numerators k (pos 0) ≡ pos 0 → AllByRecursion (Met x) (map (set_aside k) t) → AllByRecursion (Met x) (sums_of k t) → placed k x (found k x t) ≡ Some y → Set k x y × AllByRecursion (Met y) t
 extends k t x y pd kl unset old new e =
     let us = uppers k t in
     let ls = lowers k t in
@@ -131,26 +131,26 @@ extends k t x y pd kl unset old new e =
     let bs = c.1 in
     let la : Limited (lower_limit k x) ls as' = limited (lower_limit k x) ls as' c.2 in
     let lb : Limited (upper_limit k x) us bs = limited (upper_limit k x) us bs c.3 in
-    let isu : All (Upper k) us = kept_by_passes (λ r. stands r && is_positive (coefficient r k)) t in
-    let isl : All (Lower k) ls = kept_by_passes (λ r. stands r && is_negative (coefficient r k)) t in
-    let met : All (λ u. All (λ l. Met x (combined k u l)) ls) us = un_pairs (λ p. Met x (sum_of k p)) us ls (unmap (Met x) (sum_of k) (pairs us ls) new) in
-    let rooms : All (λ b. All (λ a. Room a b) as') bs =
-    limited_to (upper_limit k x) (λ u. Upper k u × All (λ l. Met x (combined k u l)) ls) (λ b. All (λ a. Room a b) as')
+    let isu : AllByRecursion (Upper k) us = kept_by_passes (λ r. stands r && is_positive (coefficient r k)) t in
+    let isl : AllByRecursion (Lower k) ls = kept_by_passes (λ r. stands r && is_negative (coefficient r k)) t in
+    let met : AllByRecursion (λ u. AllByRecursion (λ l. Met x (combined k u l)) ls) us = un_pairs (λ p. Met x (sum_of k p)) us ls (unmap (Met x) (sum_of k) (pairs us ls) new) in
+    let rooms : AllByRecursion (λ b. AllByRecursion (λ a. Room a b) as') bs =
+    limited_to (upper_limit k x) (λ u. Upper k u × AllByRecursion (λ l. Met x (combined k u l)) ls) (λ b. AllByRecursion (λ a. Room a b) as')
     (λ u b eb m. limited_to (lower_limit k x) (λ l. Lower k l × Met x (combined k u l)) (λ a. Room a b)
     (λ l a ea n. room_of k x pd u l b a m.0 n.0 eb ea (n.1 refl)) ls as' la (both (Lower k) (λ l. Met x (combined k u l)) ls isl m.1))
-    us bs lb (both (Upper k) (λ u. All (λ l. Met x (combined k u l)) ls) us isu met) in
+    us bs lb (both (Upper k) (λ u. AllByRecursion (λ l. Met x (combined k u l)) ls) us isu met) in
     let o : Between v as' bs = between as' bs v
     (limited_to (lower_limit k x) (Lower k) Proper (λ l a ea p. (lower_is k x pd l a p ea).some) ls as' la isl)
     (limited_to (upper_limit k x) (Upper k) Proper (λ u b eb p. (upper_is k x pd u b p eb).some) us bs lb isu)
     rooms c.4 in
     let New : Line → Type 0 = Held (raised k x v) (x.denominator * v.denominator) in
-    let upper : All (λ u. Upper k u → New u) us = limited_from (upper_limit k x) (λ u. Upper k u → New u) (λ b. Below b v.numerator v.denominator) (λ u b eb h p. upper_held k x pd v o.some kl unset u b p eb h) us bs lb o.high in
-    let lower : All (λ l. Lower k l → New l) ls = limited_from (lower_limit k x) (λ l. Lower k l → New l) (λ a. Above a v.numerator v.denominator) (λ l a ea h p. lower_held k x pd v o.some kl unset l a p ea h) ls as' la o.low in
-    let far : All (λ u. Upper k u → Upper k u → New u) t = unkept (λ u. Upper k u → New u) (λ r. stands r && is_positive (coefficient r k)) t upper in
-    let low : All (λ l. Lower k l → Lower k l → New l) t = unkept (λ l. Lower k l → New l) (λ r. stands r && is_negative (coefficient r k)) t lower in
-    let still : All (λ r. Met x (set_aside k r)) t = unmap (Met x) (set_aside k) t old in
+    let upper : AllByRecursion (λ u. Upper k u → New u) us = limited_from (upper_limit k x) (λ u. Upper k u → New u) (λ b. Below b v.numerator v.denominator) (λ u b eb h p. upper_held k x pd v o.some kl unset u b p eb h) us bs lb o.high in
+    let lower : AllByRecursion (λ l. Lower k l → New l) ls = limited_from (lower_limit k x) (λ l. Lower k l → New l) (λ a. Above a v.numerator v.denominator) (λ l a ea h p. lower_held k x pd v o.some kl unset l a p ea h) ls as' la o.low in
+    let far : AllByRecursion (λ u. Upper k u → Upper k u → New u) t = unkept (λ u. Upper k u → New u) (λ r. stands r && is_positive (coefficient r k)) t upper in
+    let low : AllByRecursion (λ l. Lower k l → Lower k l → New l) t = unkept (λ l. Lower k l → New l) (λ r. stands r && is_negative (coefficient r k)) t lower in
+    let still : AllByRecursion (λ r. Met x (set_aside k r)) t = unmap (Met x) (set_aside k) t old in
     let lev = leveled (raised k x v) (x.denominator * v.denominator) y (mul-pos pd o.some) a.2 in
-    let all : All (λ r. (Upper k r → Upper k r → New r) × ((Lower k r → Lower k r → New r) × Met x (set_aside k r))) t =
+    let all : AllByRecursion (λ r. (Upper k r → Upper k r → New r) × ((Lower k r → Lower k r → New r) × Met x (set_aside k r))) t =
     both (λ u. Upper k u → Upper k u → New u) (λ r. (Lower k r → Lower k r → New r) × Met x (set_aside k r)) t far (both (λ l. Lower k l → Lower k l → New l) (λ r. Met x (set_aside k r)) t low still) in (
       record { to = v; proper = o.some; leveled = lev },
       All-weaker (λ r. (Upper k r → Upper k r → New r) × ((Lower k r → Lower k r → New r) × Met x (set_aside k r))) (Met y)

@@ -3,7 +3,7 @@ use Rattle.std.specs.Prelude.{◌≡◌, ℕ, ◌+◌, ◌≤◌, Bool, true, fa
 use Rattle.std.proofs.Common.{sym, subst, subst₂, ◌∙◌, inl, inr, arith, lit≤}
 use Rattle.std.proofs.Math.Nat.{eq-one_of_dvd-one}
 use borrow.Author.Differences.{lt-true, lt-false}
-use Rattle.std.specs.List.{AllByRecursion as All}
+use Rattle.std.specs.List.{AllByRecursion}
 use Rattle.std.proofs.lemmas.Bool.{false≢true, true≢false, and_parts, cases_lt}
 use Rattle.std.proofs.ByRecursion.{All-weaker, all_kept_by, kept_by_passes}
 use Rattle.integers.specs.Vectors.{dot}
@@ -42,7 +42,7 @@ rest_none AtMost i o e = e
 rest_none Below i o e = e
 rest_none Equal i o e = absurd (none_some i (sym e))
 
-carried_met : (i : ℕ) (rows : List Constraint) (x : Levels) → first_equation i rows ≡ None → All (Met x) (carried i rows) → MeetsAll x.numerators x.denominator rows
+carried_met : (i : ℕ) (rows : List Constraint) (x : Levels) → first_equation i rows ≡ None → AllByRecursion (Met x) (carried i rows) → MeetsAll x.numerators x.denominator rows
 carried_met i [] x e h = tt
 carried_met i (r ∷ rows) x e h =
     let o = first_equation (i + 1) rows in
@@ -105,11 +105,11 @@ false_clash count rows short r h e =
 cons_nil : {X : Type 0} (x : X) (xs : List X) → x ∷ xs ≢ []
 cons_nil x xs e = let z : ◌≡◌ {A = Bool} true false = cc in true≢false z
 
-kept_nothing : {X : Type 0} (test : X → Bool) (xs : List X) → filter test xs ≡ [] → All (λ x. test x ≡ false) xs
+kept_nothing : {X : Type 0} (test : X → Bool) (xs : List X) → filter test xs ≡ [] → AllByRecursion (λ x. test x ≡ false) xs
 kept_nothing test [] e = tt
 kept_nothing {X} test (x ∷ xs) e = by (test x) refl e (kept_nothing test xs)
   where
-    by : (b : Bool) → test x ≡ b → cond b (x ∷ filter test xs) (filter test xs) ≡ [] → (filter test xs ≡ [] → All (λ y. test y ≡ false) xs) → (test x ≡ false) × All (λ y. test y ≡ false) xs
+    by : (b : Bool) → test x ≡ b → cond b (x ∷ filter test xs) (filter test xs) ≡ [] → (filter test xs ≡ [] → AllByRecursion (λ y. test y ≡ false) xs) → (test x ≡ false) × AllByRecursion (λ y. test y ≡ false) xs
     by true p e f = absurd (cons_nil x (filter test xs) e)
     by false p e f = (p, f e)
 
@@ -136,7 +136,7 @@ module _ (count : ℕ) (rows : List Constraint) (valid : Valid count rows) (plai
   levels_right : (f : List Line) → Stages rows count f → filter is_false f ≡ [] → (o : Result Levels Fault) → all_set count f at_rest ≡ o → Right count rows (level_verdict o)
   levels_right f s n (Ok y) e =
       let kept = stages_kept count rows valid count f s in
-      let rest : All (Met at_rest) f = All-weaker (λ r. Kept count rows count r × (is_false r ≡ false)) (Met at_rest) (λ r p. met count rows r p.0 p.1) f (both (Kept count rows count) (λ r. is_false r ≡ false) f kept (kept_nothing is_false f n)) in
+      let rest : AllByRecursion (Met at_rest) f = All-weaker (λ r. Kept count rows count r × (is_false r ≡ false)) (Met at_rest) (λ r p. met count rows r p.0 p.1) f (both (Kept count rows count) (λ r. is_false r ≡ false) f kept (kept_nothing is_false f n)) in
       let b = back count rows valid count f f s (λ j l. (refl, refl)) (omega arith) at_rest (rest_good count) rest y e in
       (b.0.formed, carried_met 0 rows y plain b.1)
   levels_right f s n (Err g) e = tt
@@ -144,13 +144,13 @@ module _ (count : ℕ) (rows : List Constraint) (valid : Valid count rows) (plai
   concluded_right : (f : List Line) → Stages rows count f → Right count rows (concluded count rows f)
   concluded_right f s = by (filter is_false f) refl
     where
-      both_hold : All (λ r. Kept count rows count r × False r) (filter is_false f)
+      both_hold : AllByRecursion (λ r. Kept count rows count r × False r) (filter is_false f)
       both_hold = both (Kept count rows count) False (filter is_false f) (all_kept_by is_false (Kept count rows count) f (stages_kept count rows valid count f s)) (kept_by_passes is_false f)
 
       by : (rs : List Line) → filter is_false f ≡ rs → Right count rows (elim (first_best (λ x y. nat_lt (support x) (support y)) rs) [ Some r ↦ Verdict.clash (take (length rows) r.weights) | None ↦ level_verdict (all_set count f at_rest) ])
       by [] n = levels_right f s n (all_set count f at_rest) refl
       by (r ∷ rs) n =
-          let a : All (λ r. Kept count rows count r × False r) (r ∷ rs) = subst (All (λ r. Kept count rows count r × False r)) n both_hold in
+          let a : AllByRecursion (λ r. Kept count rows count r × False r) (r ∷ rs) = subst (AllByRecursion (λ r. Kept count rows count r × False r)) n both_hold in
           let b = best_in (λ r. Kept count rows count r × False r) (λ x y. nat_lt (support x) (support y)) r rs a.0 a.1 in
           false_clash count rows valid.short _ b.0 b.1
 

@@ -1,7 +1,7 @@
 -- The tables from the rows up to the last fader, and the way back from the last table to the rows. Assumes nothing.
 use Rattle.std.specs.Prelude.{◌≡◌, ℕ, zero, suc, ◌+◌, ◌*◌, ◌<◌, ◌≤◌, List, [], ◌∷◌, map, pos, Some, None, Ok, Err, Option, Result, slice_index_or, refl}
 use Rattle.std.proofs.Common.{sym, ap, subst, ◌∙◌, arith}
-use Rattle.std.specs.List.{AllByRecursion as All}
+use Rattle.std.specs.List.{AllByRecursion}
 use Rattle.std.proofs.ByRecursion.{All-weaker}
 use Rattle.engine.specs.declared.fault.Fault.{Fault}
 use Rattle.rows.specs.Rows.{Constraint}
@@ -43,8 +43,8 @@ stages rows count f e =
     let p : 0 + count ≡ count = omega arith in
     subst (λ (n : ℕ). Stages rows n f) p (stages_on rows count 0 (carried 0 rows) f refl e)
 
-pub stages_kept : (count : ℕ) (rows : List Constraint) → Valid count rows → (k : ℕ) (t : List Line) → Stages rows k t → All (Kept count rows k) t
-stages_kept count rows v zero t s = subst (All (Kept count rows 0)) s (carried_kept count rows v.short 0 rows refl v.each)
+pub stages_kept : (count : ℕ) (rows : List Constraint) → Valid count rows → (k : ℕ) (t : List Line) → Stages rows k t → AllByRecursion (Kept count rows k) t
+stages_kept count rows v zero t s = subst (AllByRecursion (Kept count rows 0)) s (carried_kept count rows v.short 0 rows refl v.each)
 stages_kept count rows v (suc k) t s = kept_step count rows k s.0 t s.2 (stages_kept count rows v k s.0 s.1)
 
 -- ---- the limits that the last table sets for a fader
@@ -66,7 +66,7 @@ lower_limits : (k : ℕ) (x : Levels) (rs : List Line) → limits (lower_limit k
 lower_limits k x [] = refl
 lower_limits k x (r ∷ rs) = ap (also (lower_limit k x r)) (lower_limits k x rs)
 
-pub set_fader_is : (k : ℕ) (s t f : List Line) (x : Levels) → All (λ r. Before k r.aside) s → Step k s t → Later (suc k) t f → set_fader k f x ≡ placed k x (found k x s)
+pub set_fader_is : (k : ℕ) (s t f : List Line) (x : Levels) → AllByRecursion (λ r. Before k r.aside) s → Step k s t → Later (suc k) t f → set_fader k f x ≡ placed k x (found k x s)
 set_fader_is k s t f x b p h =
     let lo : limits (lower_limit k x) (below k f) ≡ limits (lower_limit k x) (lowers k s) = ap (limits (lower_limit k x)) ((h k (omega arith)).1 ∙ below_now k s t b p) ∙ lower_limits k x (lowers k s) in
     let hi : limits (upper_limit k x) (above k f) ≡ limits (upper_limit k x) (uppers k s) = ap (limits (upper_limit k x)) ((h k (omega arith)).0 ∙ above_now k s t b p) ∙ upper_limits k x (uppers k s) in
@@ -102,16 +102,16 @@ next_set None k f y e = absurd (err_ok (number_beyond k) y e)
 next_set (Some z) k f y e = (z, refl, e)
 
 module _ (count : ℕ) (rows : List Constraint) (valid : Valid count rows) where
-  pub back : (k : ℕ) (t f : List Line) → Stages rows k t → Later k t f → k ≤ count → (x : Levels) → Good count k x → All (Met x) t → (y : Levels) → all_set k f x ≡ Ok y → Good count 0 y × All (Met y) (carried 0 rows)
+  pub back : (k : ℕ) (t f : List Line) → Stages rows k t → Later k t f → k ≤ count → (x : Levels) → Good count k x → AllByRecursion (Met x) t → (y : Levels) → all_set k f x ≡ Ok y → Good count 0 y × AllByRecursion (Met y) (carried 0 rows)
   back zero t f s l c x g m y e =
       let p : x ≡ y = cc in
-      (subst (Good count 0) p g, subst (λ (z : Levels). All (Met z) (carried 0 rows)) p (subst (All (Met x)) (sym s) m))
+      (subst (Good count 0) p g, subst (λ (z : Levels). AllByRecursion (Met z) (carried 0 rows)) p (subst (AllByRecursion (Met x)) (sym s) m))
   back (suc k) t f s l c x g m y e =
       let b = s.0 in
       let p = s.2 in
       let kept = stages_kept count rows valid k b s.1 in
       let early = All-weaker (Kept count rows k) (λ r. Before k r.aside) (λ r h. h.earlier) b kept in
       let a = next_set (set_fader k f x) k f y e in
-      let parts = unjoin (Met x) (map (set_aside k) b) (sums_of k b) (subst (All (Met x)) (sym p.is) m) in
+      let parts = unjoin (Met x) (map (set_aside k) b) (sums_of k b) (subst (AllByRecursion (Met x)) (sym p.is) m) in
       let n = extends k b x a.0 g.formed.positive (omega (arith, g.formed.places, valid.few)) (g.unset k (omega arith)) parts.0 parts.1 (sym (set_fader_is k b t f x early p l) ∙ a.1) in
       back k b f s.1 (later_before k b t f p l) (omega arith) a.0 (good_set count k x a.0 c g n.0) n.1 y a.2

@@ -1,7 +1,7 @@
 -- The elimination of one fader: what the new table consists of, and what it keeps. Assumes nothing.
 use Rattle.std.specs.Prelude.{◌≡◌, ℕ, suc, ◌+◌, ◌<◌, ◌≤◌, Bool, true, false, cond, not, ◌&&◌, List, [], ◌∷◌, ◌++◌, map, length, ℤ, pos, negsuc, is_some, Some, None, Ok, Err, filter, Option, Result, ◌≢◌, nat_lt, unsigned_abs, refl}
 use Rattle.std.proofs.Common.{sym, ap, subst, ◌∙◌, arith}
-use Rattle.std.specs.List.{AllByRecursion as All}
+use Rattle.std.specs.List.{AllByRecursion}
 use Rattle.std.proofs.lemmas.Bool.{false≢true, true≢false, and_parts, ltb-false, eq-eqb, ne_eqb}
 use Rattle.std.proofs.lemmas.List.{append-nil}
 use Rattle.std.proofs.lemmas.List.Elements.{filter-append}
@@ -36,7 +36,7 @@ sums_of k t = map (sum_of k) (pairs (uppers k t) (lowers k t))
 abbrev pub Fits : Line → Type 0
 Fits r = fits r ≡ true
 
-pub sums_are : (k held : ℕ) (ps : List (Line × Line)) (new : List Line) → sums k held ps ≡ Ok new → (map (sum_of k) ps ≡ new) × All Fits (map (sum_of k) ps)
+pub sums_are : (k held : ℕ) (ps : List (Line × Line)) (new : List Line) → sums k held ps ≡ Ok new → (map (sum_of k) ps ≡ new) × AllByRecursion Fits (map (sum_of k) ps)
 sums_are k held [] new e = (cc, tt)
 sums_are k held (p ∷ ps) new e =
     let c = sum_of k p in
@@ -48,7 +48,7 @@ sums_are k held (p ∷ ps) new e =
 -- the table after fader k: the lines before it, some of them set aside, and the sums
 pub record Step (k : ℕ) (t u : List Line) : Type 0 where
   pub is : map (set_aside k) t ++ sums_of k t ≡ u
-  pub fit : All Fits (sums_of k t)
+  pub fit : AllByRecursion Fits (sums_of k t)
 
 joined_ok : (t : List Line) (o : Result (List Line) Fault) (u : List Line) → joining t o ≡ Ok u → (new : List Line) × (o ≡ Ok new) × (t ++ new ≡ u)
 joined_ok t (Ok new) u e = (new, refl, cc)
@@ -63,11 +63,11 @@ step k t u e =
 
 -- ---- all pairs
 
-pub all_pairs : (P : Line × Line → Type 0) (us ls : List Line) → All (λ u. All (λ l. P (u, l)) ls) us → All P (pairs us ls)
+pub all_pairs : (P : Line × Line → Type 0) (us ls : List Line) → AllByRecursion (λ u. AllByRecursion (λ l. P (u, l)) ls) us → AllByRecursion P (pairs us ls)
 all_pairs P [] ls h = tt
 all_pairs P (u ∷ us) ls h = All-append P (map (λ l. (u, l)) ls) (pairs us ls) (All-map P (λ l. (u, l)) ls h.0) (all_pairs P us ls h.1)
 
-pub un_pairs : (P : Line × Line → Type 0) (us ls : List Line) → All P (pairs us ls) → All (λ u. All (λ l. P (u, l)) ls) us
+pub un_pairs : (P : Line × Line → Type 0) (us ls : List Line) → AllByRecursion P (pairs us ls) → AllByRecursion (λ u. AllByRecursion (λ l. P (u, l)) ls) us
 un_pairs P [] ls h = tt
 un_pairs P (u ∷ us) ls h =
     let s = unjoin P (map (λ l. (u, l)) ls) (pairs us ls) h in
@@ -81,19 +81,19 @@ abbrev pub Lower : ℕ → Line → Type 0
 Lower k r = (stands r && is_negative (coefficient r k)) ≡ true
 
 -- what holds of all lines after a step
-pub step_all : (P Q : Line → Type 0) (k : ℕ) (t u : List Line) → Step k t u → ((r : Line) → P r → Q (set_aside k r)) → ((u l : Line) → Upper k u → Lower k l → P u → P l → Fits (combined k u l) → Q (combined k u l)) → All P t → All Q u
+pub step_all : (P Q : Line → Type 0) (k : ℕ) (t u : List Line) → Step k t u → ((r : Line) → P r → Q (set_aside k r)) → ((u l : Line) → Upper k u → Lower k l → P u → P l → Fits (combined k u l) → Q (combined k u l)) → AllByRecursion P t → AllByRecursion Q u
 step_all P Q k t u s f g h =
     let us = uppers k t in
     let ls = lowers k t in
-    let isu : All (Upper k) us = kept_by_passes (λ r. stands r && is_positive (coefficient r k)) t in
-    let isl : All (Lower k) ls = kept_by_passes (λ r. stands r && is_negative (coefficient r k)) t in
-    let pu : All P us = all_kept_by (λ r. stands r && is_positive (coefficient r k)) P t h in
-    let pl : All P ls = all_kept_by (λ r. stands r && is_negative (coefficient r k)) P t h in
-    let made : All (λ p. Fits (sum_of k p) → Q (sum_of k p)) (pairs us ls) = all_pairs (λ p. Fits (sum_of k p) → Q (sum_of k p)) us ls
-    (All-weaker (λ u. Upper k u × P u) (λ u. All (λ l. Fits (combined k u l) → Q (combined k u l)) ls)
+    let isu : AllByRecursion (Upper k) us = kept_by_passes (λ r. stands r && is_positive (coefficient r k)) t in
+    let isl : AllByRecursion (Lower k) ls = kept_by_passes (λ r. stands r && is_negative (coefficient r k)) t in
+    let pu : AllByRecursion P us = all_kept_by (λ r. stands r && is_positive (coefficient r k)) P t h in
+    let pl : AllByRecursion P ls = all_kept_by (λ r. stands r && is_negative (coefficient r k)) P t h in
+    let made : AllByRecursion (λ p. Fits (sum_of k p) → Q (sum_of k p)) (pairs us ls) = all_pairs (λ p. Fits (sum_of k p) → Q (sum_of k p)) us ls
+    (All-weaker (λ u. Upper k u × P u) (λ u. AllByRecursion (λ l. Fits (combined k u l) → Q (combined k u l)) ls)
     (λ u m. All-weaker (λ l. Lower k l × P l) (λ l. Fits (combined k u l) → Q (combined k u l)) (λ l n. g u l m.0 n.0 m.1 n.1) ls (both (Lower k) P ls isl pl))
     us (both (Upper k) P us isu pu)) in
-    subst (All Q) s.is
+    subst (AllByRecursion Q) s.is
     (All-append Q (map (set_aside k) t) (sums_of k t)
     (All-map Q (set_aside k) t (All-weaker P (λ r. Q (set_aside k r)) f t h))
     (All-map Q (sum_of k) (pairs us ls)
@@ -133,11 +133,11 @@ before_next k r h = by r.aside (nat_lt 0 (size k r)) h
     by None false h = tt
     by (Some j) b h = omega arith
 
-kept_none : {X : Type 0} (test : X → Bool) (xs : List X) → All (λ x. test x ≡ false) xs → filter test xs ≡ []
+kept_none : {X : Type 0} (test : X → Bool) (xs : List X) → AllByRecursion (λ x. test x ≡ false) xs → filter test xs ≡ []
 kept_none test [] h = refl
 kept_none {X} test (x ∷ xs) h = ap (λ (b : Bool). cond b (x ∷ filter test xs) (filter test xs)) h.0 ∙ kept_none test xs h.1
 
-kept_map : {X : Type 0} (f : X → X) (test test' : X → Bool) (xs : List X) → All (λ x. test (f x) ≡ test' x) xs → filter test (map f xs) ≡ map f (filter test' xs)
+kept_map : {X : Type 0} (f : X → X) (test test' : X → Bool) (xs : List X) → AllByRecursion (λ x. test (f x) ≡ test' x) xs → filter test (map f xs) ≡ map f (filter test' xs)
 kept_map f test test' [] h = refl
 kept_map {X} f test test' (x ∷ xs) h = ap (λ (b : Bool). cond b (f x ∷ filter test (map f xs)) (filter test (map f xs))) h.0 ∙ by (test' x) (kept_map f test test' xs h.1)
   where
@@ -145,7 +145,7 @@ kept_map {X} f test test' (x ∷ xs) h = ap (λ (b : Bool). cond b (f x ∷ filt
     by true e = ap (λ (ys : List X). f x ∷ ys) e
     by false e = e
 
-map_same : {X : Type 0} (f : X → X) (xs : List X) → All (λ x. f x ≡ x) xs → map f xs ≡ xs
+map_same : {X : Type 0} (f : X → X) (xs : List X) → AllByRecursion (λ x. f x ≡ x) xs → map f xs ≡ xs
 map_same f [] h = refl
 map_same f (x ∷ xs) h = λ i. h.0 i ∷ map_same f xs h.1 i
 
@@ -180,7 +180,7 @@ module _ (sign : ℤ → Bool) where
       by (Some i) b = refl
 
   -- the step of the fader itself sets aside the standing lines that have it
-  marked_now : (k : ℕ) (t u : List Line) → ((z : ℤ) → nat_lt 0 (unsigned_abs z) ≡ false → sign z ≡ false) → All (λ r. Before k r.aside) t → Step k t u → marked k u ≡ map (set_aside k) (filter (λ r. stands r && sign (coefficient r k)) t)
+  marked_now : (k : ℕ) (t u : List Line) → ((z : ℤ) → nat_lt 0 (unsigned_abs z) ≡ false → sign z ≡ false) → AllByRecursion (λ r. Before k r.aside) t → Step k t u → marked k u ≡ map (set_aside k) (filter (λ r. stands r && sign (coefficient r k)) t)
   marked_now k t u z h s =
       let test : Line → Bool = λ r. is_for k r.aside && sign (coefficient r k) in
       marked_old k k t u s
@@ -207,7 +207,7 @@ module _ (j k : ℕ) (t u : List Line) (n : k ≡ j → ⊥) (s : Step k t u) wh
   pub below_later : below j u ≡ below j t
   below_later = marked_later is_negative j k t u n s
 
-module _ (k : ℕ) (t u : List Line) (h : All (λ r. Before k r.aside) t) (s : Step k t u) where
+module _ (k : ℕ) (t u : List Line) (h : AllByRecursion (λ r. Before k r.aside) t) (s : Step k t u) where
   pub above_now : above k u ≡ map (set_aside k) (uppers k t)
   above_now = marked_now is_positive k t u positive_none h s
 

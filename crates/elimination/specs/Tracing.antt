@@ -2,7 +2,7 @@
 use Rattle.std.specs.Prelude.{◌≡◌, ℕ, zero, suc, ◌+◌, ◌/◌, ◌<◌, ◌≤◌, Bool, true, false, ◌&&◌, ◌||◌, List, [], ◌∷◌, map, length, get_or, drop, replicate, ℤ, pos, ◌+ℤ◌, ◌*ℤ◌, ◌≤ℤ◌, ◌<ℤ◌, slice_index_or, slice_set, refl}
 use Rattle.std.proofs.Common.{sym, ap, subst, ◌∙◌, inl, inr, arith, add-one, lit≤}
 use Rattle.std.proofs.Math.IntN.{zero-*ℤ}
-use Rattle.std.specs.List.{AllByRecursion as All}
+use Rattle.std.specs.List.{AllByRecursion}
 use Rattle.std.proofs.lemmas.Bool.{false≢true, true≢false, and_parts, cases_eq}
 use Rattle.std.proofs.lemmas.List.{length-set, length-replicate, get_or-set_same, get_or-map}
 use Rattle.std.proofs.ByRecursion.{All-set}
@@ -27,7 +27,7 @@ use Rattle.elimination.specs.Placing.{length_scale, all_near_within}
 use Rattle.elimination.specs.Steps.{Step, step_all, Upper, Lower, Fits, aside_stands, Before, before_next}
 
 abbrev pub NotNegative : List ℤ → Type 0
-NotNegative ws = All (λ w. pos 0 ≤ℤ w) ws
+NotNegative ws = AllByRecursion (λ w. pos 0 ≤ℤ w) ws
 
 -- the line is the rows times its weights, added
 pub record From (rows : List Constraint) (r : Line) : Type 0 where
@@ -144,7 +144,7 @@ pub record Kept (count : ℕ) (rows : List Constraint) (k : ℕ) (r : Line) : Ty
   pub clear : stands r ≡ true → (j : ℕ) → j < k → coefficient r j ≡ pos 0
   pub earlier : Before k r.aside
 
-pub carried_kept : (count : ℕ) (rows : List Constraint) → length rows ≤ most_rows → (i : ℕ) (rest : List Constraint) → drop i rows ≡ rest → All (ValidRow count) rest → All (Kept count rows 0) (carried i rest)
+pub carried_kept : (count : ℕ) (rows : List Constraint) → length rows ≤ most_rows → (i : ℕ) (rest : List Constraint) → drop i rows ≡ rest → AllByRecursion (ValidRow count) rest → AllByRecursion (Kept count rows 0) (carried i rest)
 carried_kept count rows short i [] e v = tt
 carried_kept count rows short i (r ∷ rest) e v =
     let p = place rows i r rest e in
@@ -170,7 +170,7 @@ carried_kept count rows short i (r ∷ rest) e v =
     )
 
 -- one step keeps it, and clears fader k
-pub kept_step : (count : ℕ) (rows : List Constraint) (k : ℕ) (t u : List Line) → Step k t u → All (Kept count rows k) t → All (Kept count rows (suc k)) u
+pub kept_step : (count : ℕ) (rows : List Constraint) (k : ℕ) (t u : List Line) → Step k t u → AllByRecursion (Kept count rows k) t → AllByRecursion (Kept count rows (suc k)) u
 kept_step count rows k t u s h = step_all (Kept count rows k) (Kept count rows (suc k)) k t u s old new h
   where
     old : (r : Line) → Kept count rows k r → Kept count rows (suc k) (set_aside k r)

@@ -1,6 +1,6 @@
 -- What an engine says of a list of rows, and when that is right. Assumes nothing.
 use Rattle.std.specs.Prelude.{◌≡◌, ℕ, ◌<◌, ◌≤◌, List, length, ℤ, pos, slice_index_or}
-use Rattle.std.specs.List.{AllByRecursion as All}
+use Rattle.std.specs.List.{AllByRecursion}
 use Rattle.engine.specs.declared.fault.Fault.{Fault}
 use Rattle.rows.specs.Limits.{faders, most_rows, Within, EachWithin}
 use Rattle.rows.specs.Rows.{Constraint, MeetsAll}
@@ -24,7 +24,7 @@ pub record Valid (count : ℕ) (rows : List Constraint) : Type 0 where
   pub some : 0 < count
   pub few : count ≤ faders
   pub short : length rows ≤ most_rows
-  pub each : All (ValidRow count) rows
+  pub each : AllByRecursion (ValidRow count) rows
 
 -- a preset is well formed and meets every row; a clash is one
 abbrev pub Right : ℕ → List Constraint → Verdict → Type 0

@@ -1,7 +1,7 @@
 -- The greatest common divisor: what it is, and Euclid's rule for it. Assumes nothing.
 use Rattle.std.specs.Prelude.{ℕ, zero, suc, ◌%◌, List, [], ◌∷◌, ℤ, unsigned_abs}
 use Rattle.std.specs.Int.{◌∣◌}
-use Rattle.std.specs.List.{AllByRecursion as All}
+use Rattle.std.specs.List.{AllByRecursion}
 
 -- r divides a and b, and whatever divides both divides r
 pub record IsGcd (a b r : ℕ) : Type 0 where
@@ -27,5 +27,5 @@ gcd_all g (z ∷ zs) = gcd_all (gcd_of g (unsigned_abs z)) zs
 -- r divides the number and each of the list, and whatever divides all of them divides r
 pub record IsGcdAll (g : ℕ) (zs : List ℤ) (r : ℕ) : Type 0 where
   pub first : r ∣ g
-  pub each : All (λ z. r ∣ unsigned_abs z) zs
-  pub greatest : (d : ℕ) → d ∣ g → All (λ z. d ∣ unsigned_abs z) zs → d ∣ r
+  pub each : AllByRecursion (λ z. r ∣ unsigned_abs z) zs
+  pub greatest : (d : ℕ) → d ∣ g → AllByRecursion (λ z. d ∣ unsigned_abs z) zs → d ∣ r

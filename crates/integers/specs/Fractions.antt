@@ -1,12 +1,12 @@
 -- Fractions over a positive denominator, and what their lowest terms are. Assumes nothing.
 use Rattle.std.specs.Prelude.{◌≡◌, ℕ, ◌<◌, ◌≤◌, List, [], ◌∷◌, ℤ, pos, ◌*ℤ◌, ◌<ℤ◌, int_div, unsigned_abs}
 use Rattle.std.specs.Int.{◌∣◌}
-use Rattle.std.specs.List.{AllZip, AllByRecursion as All}
+use Rattle.std.specs.List.{AllZip, AllByRecursion}
 use Rattle.integers.specs.Divisors.{gcd_of}
 
 -- the numerators ns over d are in lowest terms: no number above 1 divides d and all of ns
 abbrev pub Least : List ℤ → ℕ → Type 0
-Least ns d = (g : ℕ) → g ∣ d → All (λ n. g ∣ unsigned_abs n) ns → g ≡ 1
+Least ns d = (g : ℕ) → g ∣ d → AllByRecursion (λ n. g ∣ unsigned_abs n) ns → g ≡ 1
 
 -- ns over d and ps over q are the same fractions, place by place
 abbrev pub Same : List ℤ → ℕ → List ℤ → ℕ → Type 0

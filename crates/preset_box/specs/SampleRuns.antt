@@ -1,6 +1,6 @@
 -- Runs whose replies by the box as sold are written out. Assumes nothing.
 use Rattle.std.specs.Prelude.{◌≡◌, ℕ, List, [], ◌∷◌, ℤ, pos, negsuc, None}
-use Rattle.std.specs.List.{AllByRecursion as All}
+use Rattle.std.specs.List.{AllByRecursion}
 use Rattle.plans.specs.Plans.{no_plan}
 use Rattle.console.specs.declared.command.Command.{Command}
 use Rattle.console.specs.declared.command.Command.TheVariants.{Open, Add, Lift, Mute, Sound, Ask, Blame}
@@ -38,4 +38,4 @@ samples =
     ∷ []
 
 abbrev pub SamplesReplied : Type 0
-SamplesReplied = All (λ s. replies sold_verdict None no_plan s.commands ≡ s.replied) samples
+SamplesReplied = AllByRecursion (λ s. replies sold_verdict None no_plan s.commands ≡ s.replied) samples

@@ -1,7 +1,7 @@
 -- The bytes of a command, and that commands are what their own bytes say. Assumes nothing.
 use Rattle.std.specs.Prelude.{◌≡◌, ℕ, suc, ◌-◌, ◌*◌, ◌/◌, ◌%◌, ◌<◌, ◌≤◌, List, [], ◌∷◌, ◌++◌, length, ℤ, pos, negsuc, None}
 use Rattle.std.specs.Int.Signed.{mag}
-use Rattle.std.specs.List.{flat_map, AllByRecursion as All}
+use Rattle.std.specs.List.{flat_map, AllByRecursion}
 use Rattle.console.specs.declared.command.Command.{Command}
 use Rattle.console.specs.declared.command.Command.TheVariants.{Open, Add, Lift, Mute, Sound, Ask, Blame}
 use Rattle.rows.specs.Limits.{faders}
@@ -42,7 +42,7 @@ Below h z = mag z < h
 -- the numbers of a command are in the range of their types
 abbrev pub InRange : Command → Type 0
 InRange (Open count) = Byte count
-InRange (Add kind zs side) = Byte kind × (length zs ≡ faders) × All (Below 32768) zs × Below 2147483648 side
+InRange (Add kind zs side) = Byte kind × (length zs ≡ faders) × AllByRecursion (Below 32768) zs × Below 2147483648 side
 InRange Lift = Unit {0}
 InRange (Mute number) = Byte number
 InRange (Sound number) = Byte number
@@ -51,8 +51,8 @@ InRange Blame = Unit {0}
 
 -- the bytes of commands are bytes and, where they are not too many, are read as these commands and no refusal
 pub record ReadBack (cs : List Command) : Type 0 where
-  pub bytes : All Byte (flat_map bytes_of cs)
+  pub bytes : AllByRecursion Byte (flat_map bytes_of cs)
   pub back : length (flat_map bytes_of cs) ≤ most_bytes → parsed (flat_map bytes_of cs) ≡ (cs, None)
 
 abbrev pub ReadsBack : Type 0
-ReadsBack = (cs : List Command) → All InRange cs → ReadBack cs
+ReadsBack = (cs : List Command) → AllByRecursion InRange cs → ReadBack cs

@@ -1,6 +1,6 @@
 -- What a row says, and which levels meet it. Assumes nothing.
 use Rattle.std.specs.Prelude.{◌≡◌, ℕ, ◌+◌, ◌<◌, ◌≤◌, Bool, cond, ◌&&◌, List, [], ◌∷◌, map, ℤ, pos, ◌*ℤ◌, ◌≤ℤ◌, ◌<ℤ◌, Some, None, Option, nat_le, nat_lt, slice_index_or, unsigned_abs}
-use Rattle.std.specs.List.{AllByRecursion as All}
+use Rattle.std.specs.List.{AllByRecursion}
 use Rattle.integers.specs.Vectors.{dot}
 use Rattle.rows.specs.declared.kind.Kind.{Kind}
 use Rattle.rows.specs.declared.kind.Kind.TheVariants.{AtMost, Below, Equal}
@@ -31,7 +31,7 @@ abbrev pub Meets : List ℤ → ℕ → Constraint → Type 0
 Meets ns d r = Compares r.kind (dot r.coefficients ns) (r.side *ℤ pos d)
 
 abbrev pub MeetsAll : List ℤ → ℕ → List Constraint → Type 0
-MeetsAll ns d rows = All (Meets ns d) rows
+MeetsAll ns d rows = AllByRecursion (Meets ns d) rows
 
 -- some levels meet all rows
 abbrev pub Feasible : List Constraint → Type 0

@@ -1,6 +1,6 @@
 -- Plans whose verdict by the engine as sold is written out. Assumes nothing.
 use Rattle.std.specs.Prelude.{◌≡◌, ℕ, List, [], ◌∷◌, ◌++◌, ℤ, pos, negsuc}
-use Rattle.std.specs.List.{AllByRecursion as All}
+use Rattle.std.specs.List.{AllByRecursion}
 use Rattle.rows.specs.declared.kind.Kind.{Kind}
 use Rattle.rows.specs.declared.kind.Kind.TheVariants.{AtMost, Below, Equal}
 use Rattle.rows.specs.Rows.{Constraint}
@@ -44,4 +44,4 @@ samples =
     ∷ []
 
 abbrev pub SamplesDecided : Type 0
-SamplesDecided = All (λ s. sold_verdict s.count s.rows ≡ s.verdict) samples
+SamplesDecided = AllByRecursion (λ s. sold_verdict s.count s.rows ≡ s.verdict) samples

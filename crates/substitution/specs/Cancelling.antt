@@ -3,7 +3,7 @@ use Rattle.std.specs.Prelude.{◌≡◌, ℕ, zero, suc, ◌*◌, ◌/◌, ◌<�
 use Rattle.std.proofs.Common.{ap, subst, ◌∙◌, inl, inr, arith}
 use Rattle.std.specs.Int.{◌∣◌}
 use Rattle.std.proofs.Math.Nat.{div-mul_cancel}
-use Rattle.std.specs.List.{AllByRecursion as All}
+use Rattle.std.specs.List.{AllByRecursion}
 use Rattle.std.proofs.lemmas.Bool.{ltb-true, ltb-false, lt-ltb}
 use Rattle.integers.specs.Vectors.{add, scale}
 use Rattle.integers.specs.Divisors.{gcd_of}
@@ -110,13 +110,13 @@ module _ (k : ℕ) (p : Sum) where
       subst (Become k p (r ∷ rs)) a.4 (one_becomes r a.0 a.2, all_become rs a.1 a.3)
 
   -- what holds of the rows before, of those after, and the other way round
-  pub become_on : (P Q : Kept → Type 0) → ((r s : Kept) → Becomes k p r s → P r → Q s) → (rs ss : List Kept) → Become k p rs ss → All P rs → All Q ss
+  pub become_on : (P Q : Kept → Type 0) → ((r s : Kept) → Becomes k p r s → P r → Q s) → (rs ss : List Kept) → Become k p rs ss → AllByRecursion P rs → AllByRecursion Q ss
   become_on P Q f [] [] b h = tt
   become_on P Q f [] (s ∷ ss) b h = absurd b
   become_on P Q f (r ∷ rs) [] b h = absurd b
   become_on P Q f (r ∷ rs) (s ∷ ss) b h = (f r s b.0 h.0, become_on P Q f rs ss b.1 h.1)
 
-  pub become_back : (P Q : Kept → Type 0) → ((r s : Kept) → Becomes k p r s → Q s → P r) → (rs ss : List Kept) → Become k p rs ss → All Q ss → All P rs
+  pub become_back : (P Q : Kept → Type 0) → ((r s : Kept) → Becomes k p r s → Q s → P r) → (rs ss : List Kept) → Become k p rs ss → AllByRecursion Q ss → AllByRecursion P rs
   become_back P Q f [] [] b h = tt
   become_back P Q f [] (s ∷ ss) b h = absurd b
   become_back P Q f (r ∷ rs) [] b h = absurd b

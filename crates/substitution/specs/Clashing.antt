@@ -3,7 +3,7 @@ use Rattle.std.specs.Prelude.{◌≡◌, ℕ, zero, suc, ◌+◌, ◌<◌, ◌�
 use Rattle.std.proofs.Common.{sym, ap, subst, ◌∙◌, inl, inr, arith}
 use Rattle.std.proofs.Math.IntN.{+ℤ_assoc, +ℤ_idl}
 use borrow.Author.Differences.{lt-true, lt-false}
-use Rattle.std.specs.List.{AllByRecursion as All}
+use Rattle.std.specs.List.{AllByRecursion}
 use Rattle.std.proofs.lemmas.Bool.{and_parts}
 use Rattle.std.proofs.lemmas.List.{drop_more, length-replicate}
 use Rattle.std.proofs.ByRecursion.{All-weaker}
@@ -74,7 +74,7 @@ mix (w ∷ ws) [] = replicate most_rows (pos 0)
 mix (w ∷ ws) (r ∷ rs) = add (scale w r.sum.weights) (mix ws rs)
 
 -- one number of each row
-mix_numbers : (f : Constraint → ℤ) (rows : List Constraint) (ws : List ℤ) (rs : List Kept) → All (λ r. dot r.sum.weights (map f rows) ≡ f (handed_down r)) rs → dot (mix ws rs) (map f rows) ≡ dot ws (map f (map handed_down rs))
+mix_numbers : (f : Constraint → ℤ) (rows : List Constraint) (ws : List ℤ) (rs : List Kept) → AllByRecursion (λ r. dot r.sum.weights (map f rows) ≡ f (handed_down r)) rs → dot (mix ws rs) (map f rows) ≡ dot ws (map f (map handed_down rs))
 mix_numbers f rows [] rs h = dot_none (replicate most_rows (pos 0)) (map f rows) (zeros_at most_rows)
 mix_numbers f rows (w ∷ ws) [] h = dot_none (replicate most_rows (pos 0)) (map f rows) (zeros_at most_rows)
 mix_numbers f rows (w ∷ ws) (r ∷ rs) h =
@@ -90,7 +90,7 @@ mix_at (w ∷ ws) (r ∷ rs) j =
     ∙ (λ i. scale_at w r.sum.weights j i +ℤ mix_at ws rs j i)
 
 module _ (count : ℕ) (rows : List Constraint) where
-  mix_length : (ws : List ℤ) (rs : List Kept) → All (Traced count rows) rs → length (mix ws rs) ≡ most_rows
+  mix_length : (ws : List ℤ) (rs : List Kept) → AllByRecursion (Traced count rows) rs → length (mix ws rs) ≡ most_rows
   mix_length [] rs t = length-replicate most_rows (pos 0)
   mix_length (w ∷ ws) [] t = length-replicate most_rows (pos 0)
   mix_length (w ∷ ws) (r ∷ rs) t =
@@ -102,24 +102,24 @@ module _ (count : ℕ) (rows : List Constraint) where
   scaled_upward Below w r e h t = upward_scale w r.sum.weights rows h t.upward
   scaled_upward Equal w r e h t = even_upward (scale w r.sum.weights) rows (even_scale w r.sum.weights rows (t.even e))
 
-  mix_upward : (ws : List ℤ) (rs : List Kept) → All (Traced count rows) rs → Weighed ws (map handed_down rs) → Upward (mix ws rs) rows
+  mix_upward : (ws : List ℤ) (rs : List Kept) → AllByRecursion (Traced count rows) rs → Weighed ws (map handed_down rs) → Upward (mix ws rs) rows
   mix_upward [] rs t h = zeros_upward most_rows rows
   mix_upward (w ∷ ws) [] t h = zeros_upward most_rows rows
   mix_upward (w ∷ ws) (r ∷ rs) t h = upward_add (scale w r.sum.weights) (mix ws rs) rows (scaled_upward r.kind w r refl h.0 t.0) (mix_upward ws rs t.1 h.1)
 
-  mix_strictly : (ws : List ℤ) (rs : List Kept) → All (Traced count rows) rs → Weighed ws (map handed_down rs) → Strictly ws (map handed_down rs) → Strictly (mix ws rs) rows
+  mix_strictly : (ws : List ℤ) (rs : List Kept) → AllByRecursion (Traced count rows) rs → Weighed ws (map handed_down rs) → Strictly ws (map handed_down rs) → Strictly (mix ws rs) rows
   mix_strictly [] rs t h s = absurd s
   mix_strictly (w ∷ ws) [] t h s = absurd s
   mix_strictly (w ∷ ws) (r ∷ rs) t h (inl s) = strictly_left (scale w r.sum.weights) (mix ws rs) rows (strictly_scale w r.sum.weights rows s.1 (t.0.strictly s.0)) (mix_upward ws rs t.1 h.1)
   mix_strictly (w ∷ ws) (r ∷ rs) t h (inr s) = strictly_right (scale w r.sum.weights) (mix ws rs) rows (scaled_upward r.kind w r refl h.0 t.0) (mix_strictly ws rs t.1 h.1 s)
 
-  mix_columns : (ws : List ℤ) (rs : List Kept) → All (Traced count rows) rs → (k : ℕ) → column (mix ws rs) rows k ≡ column ws (map handed_down rs) k
+  mix_columns : (ws : List ℤ) (rs : List Kept) → AllByRecursion (Traced count rows) rs → (k : ℕ) → column (mix ws rs) rows k ≡ column ws (map handed_down rs) k
   mix_columns ws rs t k = mix_numbers (λ c. get_or c.coefficients k (pos 0)) rows ws rs (All-weaker (Traced count rows) (λ r. column r.sum.weights rows k ≡ at r.sum k) (λ r h. h.columns k) rs t)
 
-  mix_total : (ws : List ℤ) (rs : List Kept) → All (Traced count rows) rs → total (mix ws rs) rows ≡ total ws (map handed_down rs)
+  mix_total : (ws : List ℤ) (rs : List Kept) → AllByRecursion (Traced count rows) rs → total (mix ws rs) rows ≡ total ws (map handed_down rs)
   mix_total ws rs t = mix_numbers (λ c. c.side) rows ws rs (All-weaker (Traced count rows) (λ r. total r.sum.weights rows ≡ r.sum.side) (λ r h. h.totals) rs t)
 
-  mix_falsehood : (ws : List ℤ) (rs : List Kept) → All (Traced count rows) rs → Weighed ws (map handed_down rs) → Falsehood ws (map handed_down rs) → Falsehood (mix ws rs) rows
+  mix_falsehood : (ws : List ℤ) (rs : List Kept) → AllByRecursion (Traced count rows) rs → Weighed ws (map handed_down rs) → Falsehood ws (map handed_down rs) → Falsehood (mix ws rs) rows
   mix_falsehood ws rs t h (inl f) = inl (subst (λ (x : ℤ). x <ℤ pos 0) (sym (mix_total ws rs t)) f)
   mix_falsehood ws rs t h (inr f) = inr (mix_total ws rs t ∙ f.0, mix_strictly ws rs t h f.1)
 
@@ -159,7 +159,7 @@ lifted_are ws rs (suc n) j vs l e =
       subst EachWithin b.4 (cons_within x xs s.1 ih.1),
     )
 
-pub lifted_clash : (count : ℕ) (rows : List Constraint) → length rows ≤ most_rows → (ws : List ℤ) (rs : List Kept) → All (Traced count rows) rs → Clash ws (map handed_down rs) → (vs : List ℤ) → lifted_weights (length rows) 0 ws rs ≡ Ok vs → Clash vs rows
+pub lifted_clash : (count : ℕ) (rows : List Constraint) → length rows ≤ most_rows → (ws : List ℤ) (rs : List Kept) → AllByRecursion (Traced count rows) rs → Clash ws (map handed_down rs) → (vs : List ℤ) → lifted_weights (length rows) 0 ws rs ≡ Ok vs → Clash vs rows
 lifted_clash count rows short ws rs t c vs e =
     let long = mix_length count rows ws rs t in
     let l = lifted_are ws rs (length rows) 0 vs (omega arith) e in

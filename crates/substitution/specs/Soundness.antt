@@ -2,7 +2,7 @@
 use Rattle.std.specs.Prelude.{◌≡◌, ℕ, zero, suc, ◌+◌, ◌<◌, ◌≤◌, Bool, true, false, cond, List, [], ◌∷◌, ◌++◌, map, length, ℤ, pos, ◌*ℤ◌, Some, None, Ok, Err, Option, Result, nat_lt, slice_index_or, unsigned_abs, refl}
 use Rattle.std.proofs.Common.{sym, ap, subst, ◌∙◌, inl, inr, arith}
 use Rattle.std.proofs.Math.IntN.{zero-*ℤ}
-use Rattle.std.specs.List.{AllByRecursion as All}
+use Rattle.std.specs.List.{AllByRecursion}
 use Rattle.std.proofs.lemmas.Bool.{false≢true, ltb-true, cases_lt}
 use Rattle.std.proofs.lemmas.List.{length-append, length-map}
 use Rattle.std.proofs.ByRecursion.{All-weaker, All-append}
@@ -55,7 +55,7 @@ has_fader xs i e =
 
 -- ---- the listed rows
 
-kept_met : (i : ℕ) (rows : List Constraint) (ns : List ℤ) (d : ℕ) → All (Met ns d) (kept_rows i rows) → MeetsAll ns d rows
+kept_met : (i : ℕ) (rows : List Constraint) (ns : List ℤ) (d : ℕ) → AllByRecursion (Met ns d) (kept_rows i rows) → MeetsAll ns d rows
 kept_met i [] ns d h = tt
 kept_met i (r ∷ rows) ns d h = (h.0, kept_met (i + 1) rows ns d h.1)
 
@@ -71,12 +71,12 @@ equation_is Equal e = refl
 module _ (count : ℕ) (rows : List Constraint) (valid : Valid count rows) where
   -- levels that meet the rows, completed by the pivots, are a right answer
   abbrev Completes : List Kept → List Kept → List Pivot → Type 0
-  Completes before after ps = (ns : List ℤ) (d : ℕ) → WellFormed count ns d → All (Met ns d) before → All (Met ns d) after → Right count rows (all_completed ps ns d)
+  Completes before after ps = (ns : List ℤ) (d : ℕ) → WellFormed count ns d → AllByRecursion (Met ns d) before → AllByRecursion (Met ns d) after → Right count rows (all_completed ps ns d)
 
   record State (before after : List Kept) (ps : List Pivot) : Type 0 where
     short : length before + length after ≤ most_rows
-    earlier : All (Traced count rows) before
-    later : All (Traced count rows) after
+    earlier : AllByRecursion (Traced count rows) before
+    later : AllByRecursion (Traced count rows) after
     completes : Completes before after ps
 
   start : State [] (kept_rows 0 rows) []
@@ -127,7 +127,7 @@ module _ (count : ℕ) (rows : List Constraint) (valid : Valid count rows) where
       completes = λ ns d w p q. by ns d w p q (completed (record { fader = k; sum = r.sum }) ns d) refl;
     }
       where
-        by : (ns : List ℤ) (d : ℕ) → WellFormed count ns d → All (Met ns d) bs → All (Met ns d) rest → (o : Option (List ℤ × ℕ)) → completed (record { fader = k; sum = r.sum }) ns d ≡ o
+        by : (ns : List ℤ) (d : ℕ) → WellFormed count ns d → AllByRecursion (Met ns d) bs → AllByRecursion (Met ns d) rest → (o : Option (List ℤ × ℕ)) → completed (record { fader = k; sum = r.sum }) ns d ≡ o
             → Right count rows (elim o [ Some q ↦ all_completed ps q.0 q.1 | None ↦ Verdict.fault (number_beyond k) ])
         by ns d w p q None e = tt
         by ns d w p q (Some x) e =

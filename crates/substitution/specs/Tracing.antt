@@ -2,7 +2,7 @@
 use Rattle.std.specs.Prelude.{◌≡◌, ℕ, zero, suc, ◌+◌, ◌<◌, ◌≤◌, true, ◌&&◌, List, [], ◌∷◌, map, length, drop, replicate, ℤ, pos, ◌+ℤ◌, ◌*ℤ◌, ◌≤ℤ◌, ◌<ℤ◌, slice_index_or, unsigned_abs, refl}
 use Rattle.std.proofs.Common.{sym, ap, subst, ◌∙◌, inl, inr, arith, add-one}
 use Rattle.std.proofs.Math.IntN.{*ℤ-zero}
-use Rattle.std.specs.List.{AllByRecursion as All}
+use Rattle.std.specs.List.{AllByRecursion}
 use Rattle.std.proofs.lemmas.Bool.{and_parts}
 use Rattle.std.proofs.lemmas.List.{length-set, length-replicate, get_or-set_same, get_or-map}
 use Rattle.integers.specs.Vectors.{dot, add, scale}
@@ -161,7 +161,7 @@ pub record Traced (count : ℕ) (rows : List Constraint) (r : Kept) : Type 0 whe
   pub upward : Upward r.sum.weights rows
   pub strictly : r.kind ≡ Below → Strictly r.sum.weights rows
 
-pub listed_traced : (count : ℕ) (rows : List Constraint) → length rows ≤ most_rows → (i : ℕ) (rest : List Constraint) → drop i rows ≡ rest → All (ValidRow count) rest → All (Traced count rows) (kept_rows i rest)
+pub listed_traced : (count : ℕ) (rows : List Constraint) → length rows ≤ most_rows → (i : ℕ) (rest : List Constraint) → drop i rows ≡ rest → AllByRecursion (ValidRow count) rest → AllByRecursion (Traced count rows) (kept_rows i rest)
 listed_traced count rows short i [] e v = tt
 listed_traced count rows short i (r ∷ rest) e v =
     let p = place rows i r rest e in
