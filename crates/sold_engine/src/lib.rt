@@ -2,9 +2,9 @@
 // It sees the crates `elimination`, `engine`, `integers`, `rows` and `substitution`.
 #![tactic(auto)]
 
-pub mod sold;
 pub mod samples;
 pub mod small;
+pub mod sold;
 #[cfg(test)]
 mod tests;
 

@@ -51,10 +51,10 @@ returns-in_err-rest g c =
     let t = turn_fault g.E.Engine.verdict g.E.Engine.cells (length l.table) c.args.count rules l.number rule h e c.rules-then-rule.result.now (c.rules-then-rule.ensures ∙ c.mute.ensures.marks) c.in_err-rest.field-0.0 (omega (arith, c.requires.room, l.auto.table)) c.in_err-rest.ensures in
     record {
       rules =
-        let m = c.mute.ensures in
-        let name = sym (m.same ∙ l.invariant.3) in
-        let back = c.drop-guard.ensures ∙ m.back ∙ l.invariant.2 in
-        grind (arith, name, back);
+          let m = c.mute.ensures in
+          let name = sym (m.same ∙ l.invariant.3) in
+          let back = c.drop-guard.ensures ∙ m.back ∙ l.invariant.2 in
+          grind (arith, name, back);
       names = rw (p.1, p.2) (names_fault (Unit {0}) _ t.0 c.in_err-rest.field-0.0 c.args.marks.now (sym l.invariant.5 ∙ t.2) t.1);
     }
 
