@@ -7,11 +7,11 @@ use Rattle.plancheck.proofs.claims.preset_of.Goals as goal
 
 pub invariant_of-result : goal.invariant_of-result
 invariant_of-result c =
-    let n = none_found largest c.first-six-values.result c.in-Ok.numerators c.in-Ok.ensures in
+    let n = none_found largest c.first_six-values.result c.in-Ok.numerators c.in-Ok.ensures in
     let f : SFits w64 c.args.denominator = search rules in
     let some = simp to_z-of_z at c.in-Some.ensures in
     let d = some_denominator c.args.denominator c.in-Some.denominator some in
-    let e : EachWithin c.first-six-values.result = all_within largest 0 c.first-six-values.result n.0 in
+    let e : EachWithin c.first_six-values.result = all_within largest 0 c.first_six-values.result n.0 in
     record {
       places = search rules;
       within = subst EachWithin (sym n.1) e;

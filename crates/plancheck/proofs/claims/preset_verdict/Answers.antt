@@ -6,8 +6,8 @@ use Rattle.rows.specs.declared.row.Row.{Row}
 use Rattle.plancheck.proofs.Places.{unmet_within, coefficients_there}
 use Rattle.plancheck.proofs.claims.preset_verdict.Goals as goal
 
-pub offset-bounds-rows-i : goal.offset-bounds-rows-i
-offset-bounds-rows-i c =
+pub offset_bounds-rows-i : goal.offset_bounds-rows-i
+offset_bounds-rows-i c =
     let p = c.args.preset.now in
     let h : c.in-Some.i < length c.args.rows.now = unmet_within p.numerators p.denominator c.args.rows.now c.in-Some.i c.in-Some.ensures in
     search rules

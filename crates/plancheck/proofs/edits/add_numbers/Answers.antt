@@ -11,13 +11,13 @@ use Rattle.plancheck.proofs.Beyond.{none_found}
 use Rattle.plancheck.proofs.Adding.{side_far, added}
 use Rattle.plancheck.proofs.edits.add_numbers.Goals as goal
 
-pub returns-in-default : goal.returns-in-default
-returns-in-default c =
+pub returns-in_default : goal.returns-in_default
+returns-in_default c =
     let zs = take faders c.args.numbers.now.values in
     let f : SFits w64 c.args.side = search rules in
-    let far = simp to_z-of_z at c.in-default.ensures in
-    let n = none_found coefficient_range c.first-six-values.result c.in-Ok.coefficients c.in-Ok.ensures in
-    let e = ap (first_beyond coefficient_range 0) (sym c.first-six-values.ensures) ∙ n.0 in
+    let far = simp to_z-of_z at c.in_default.ensures in
+    let n = none_found coefficient_range c.first_six-values.result c.in-Ok.coefficients c.in-Ok.ensures in
+    let e = ap (first_beyond coefficient_range 0) (sym c.first_six-values.ensures) ∙ n.0 in
     rw (side_far (kind_number c.args.comparison) zs c.args.side (plan_view c.args.plan.now) e far) (refl, refl)
 
 pub returns : goal.returns
@@ -27,8 +27,8 @@ returns c =
     let g : SFits w32 c.in-Some.side = search rules in
     let some = simp to_z-of_z at c.in-Some.ensures in
     let s = some_narrowed c.args.side c.in-Some.side some in
-    let n = none_found coefficient_range c.first-six-values.result c.in-Ok.coefficients c.in-Ok.ensures in
-    let e = ap (first_beyond coefficient_range 0) (sym c.first-six-values.ensures) ∙ n.0 in
-    added c.kind-number.result (kind_number c.args.comparison) c.in-Ok.coefficients zs (to_z w32 (of_z w32 c.in-Some.side)) c.args.side
+    let n = none_found coefficient_range c.first_six-values.result c.in-Ok.coefficients c.in-Ok.ensures in
+    let e = ap (first_beyond coefficient_range 0) (sym c.first_six-values.ensures) ∙ n.0 in
+    added c.kind_number.result (kind_number c.args.comparison) c.in-Ok.coefficients zs (to_z w32 (of_z w32 c.in-Some.side)) c.args.side
     (plan_view c.args.plan.now) c.add.result (plan_view c.add.new.self)
-    c.kind-number.ensures (n.1 ∙ c.first-six-values.ensures) (to_z-of_z w32 c.in-Some.side g ∙ s.1) e s.0 c.add.ensures
+    c.kind_number.ensures (n.1 ∙ c.first_six-values.ensures) (to_z-of_z w32 c.in-Some.side g ∙ s.1) e s.0 c.add.ensures

@@ -20,8 +20,8 @@ returns-in-Ok c =
     let kind = kind_number c.args.comparison in
     let f : SFits w64 c.args.side = search rules in
     let d = simp to_z-of_z at c.in-Ok.ensures in
-    let e = done (numbers_refusal kind zs c.args.side v) (after_add kind zs c.args.side v) v c.in-Ok.field-0 (plan_view c.add-numbers.new.plan) d in
-    (c.if-numbers-wanted.false, e, sym (length_rules c.add-numbers.new.plan))
+    let e = done (numbers_refusal kind zs c.args.side v) (after_add kind zs c.args.side v) v c.in-Ok.field-0 (plan_view c.add_numbers.new.plan) d in
+    (c.if-numbers-wanted.false, e, sym (length_rules c.add_numbers.new.plan))
 
 pub returns-in-Err : goal.returns-in-Err
 returns-in-Err c =
@@ -30,5 +30,5 @@ returns-in-Err c =
     let kind = kind_number c.args.comparison in
     let f : SFits w64 c.args.side = search rules in
     let d = simp to_z-of_z at c.in-Err.ensures in
-    let e = refused_so (numbers_refusal kind zs c.args.side v) (after_add kind zs c.args.side v) v c.in-Err.refusal (plan_view c.add-numbers.new.plan) d in
+    let e = refused_so (numbers_refusal kind zs c.args.side v) (after_add kind zs c.args.side v) v c.in-Err.refusal (plan_view c.add_numbers.new.plan) d in
     (rule_numbers c.args.numbers.now c.args.comparison c.args.side v c.if-plan-eq0.false c.if-numbers-wanted.false ∙ ap refused_by e.0, e.1)

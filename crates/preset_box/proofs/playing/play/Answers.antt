@@ -16,7 +16,7 @@ returns c =
     let n = c.play.result in
     let cs = take n c.args.commands.now in
     let rs = reply_views (take n c.play.new.replies) in
-    let taken : table_refusal room (length c.new-table-table.result) ≡ None = ap (table_refusal room) c.new-table-table.ensures ∙ refl in
+    let taken : table_refusal room (length c.new_table-table.result) ≡ None = ap (table_refusal room) c.new_table-table.ensures ∙ refl in
     let exact = subst (λ (o : Option Refusal). rs ≡ replies sold_verdict o no_plan cs) taken c.play.ensures.exact in
     record {
       count = c.play.ensures.count;

@@ -6,8 +6,8 @@ use Rattle.protocol.specs.Bytes.{most_bytes, reading, Reads}
 use Rattle.protocol.proofs.Onward.{after, onward_next, onward_stops, kept_next, reading_stops, reading_full, reading_ends, parsed_short, parsed_long, reads_from}
 use Rattle.protocol.proofs.bytes.read_commands.Goals as goal
 
-pub returns-then-bytes-gt-MOST-BYTES : goal.returns-then-bytes-gt-MOST-BYTES
-returns-then-bytes-gt-MOST-BYTES c =
+pub returns-then-bytes-gt-MOST_BYTES : goal.returns-then-bytes-gt-MOST_BYTES
+returns-then-bytes-gt-MOST_BYTES c =
     let vs = c.args.commands.now in
     reads_from c.args.bytes.now vs vs 0 _ (omega arith) (parsed_long (length vs) c.args.bytes.now (omega (arith, ltb-true))) refl
 

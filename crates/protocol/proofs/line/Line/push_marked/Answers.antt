@@ -11,7 +11,7 @@ pub loop-number-preserved : goal.loop-number-preserved
 loop-number-preserved c =
     let l = c.loop-number in
     elim c.if-mark-ne0.branch [
-      | then-mark-ne0 w ↦ few_as (12 * l.number + 12) _ (few_then (12 * l.number) 12 l.invariant w.push-number.ensures) (items_marked c.args.marks.now l.number (omega arith) w.if-mark-ne0.true) (omega arith) w.self-is
+      | then-mark-ne0 w ↦ few_as (12 * l.number + 12) _ (few_then (12 * l.number) 12 l.invariant w.push_number.ensures) (items_marked c.args.marks.now l.number (omega arith) w.if-mark-ne0.true) (omega arith) w.self-is
       | else-mark-ne0 w ↦ few_as (12 * l.number) _ l.invariant (items_unmarked c.args.marks.now l.number (omega arith) w.if-mark-ne0.false) (omega arith) w.self-is
     ]
 

@@ -6,8 +6,8 @@ use Rattle.protocol.proofs.Digits.{at_most_ten, at_most_twelve}
 use Rattle.protocol.proofs.line.Line.push_number.Goals as goal
 use Rattle.protocol.proofs.line.Line.push_number.Goals.{then-negative, else-negative}
 
-pub push-digits-requires : goal.push-digits-requires
-push-digits-requires c = elim c.if-negative.branch [
+pub push_digits-requires : goal.push_digits-requires
+push_digits-requires c = elim c.if-negative.branch [
   | then-negative w ↦ rw w.self-is (omega (arith, at_most_ten c.args.size (omega arith)))
   | else-negative w ↦ rw w.self-is (omega (arith, at_most_ten c.args.size (omega arith)))
 ]
@@ -15,8 +15,8 @@ push-digits-requires c = elim c.if-negative.branch [
 pub returns : goal.returns
 returns c = record {
   appends = elim c.if-negative.branch [
-    | then-negative w ↦ appends_as (appends_on c.if-negative.self (appends_then c.push.ensures w.push-then-negative.ensures) w.self-is c.push-digits.ensures) (ap (λ b. 32 ∷ (sign_text b ++ decimal c.args.size)) (sym w.if-negative.true))
-    | else-negative w ↦ appends_as (appends_on c.if-negative.self c.push.ensures w.self-is c.push-digits.ensures) (ap (λ b. 32 ∷ (sign_text b ++ decimal c.args.size)) (sym w.if-negative.false))
+    | then-negative w ↦ appends_as (appends_on c.if-negative.self (appends_then c.push.ensures w.push-then-negative.ensures) w.self-is c.push_digits.ensures) (ap (λ b. 32 ∷ (sign_text b ++ decimal c.args.size)) (sym w.if-negative.true))
+    | else-negative w ↦ appends_as (appends_on c.if-negative.self c.push.ensures w.self-is c.push_digits.ensures) (ap (λ b. 32 ∷ (sign_text b ++ decimal c.args.size)) (sym w.if-negative.false))
   ];
   few = at_most_twelve c.args.negative c.args.size (omega arith);
 }
