@@ -1,8 +1,6 @@
 -- The sounding rules of a plan are rows that an engine takes, one after another. Assumes nothing.
-use Rattle.std.proofs.Common.{◌≡◌, ℕ, zero, suc, ◌+◌, ◌<◌, ◌≤◌, Bool, true, false, List, [], ◌∷◌, ◌++◌, length, get_or, take, drop, Some, None, Ok, Err, Option, Result, sym, refl, ap, ◌∙◌, subst, arith, MatchResult}
-use Rattle.std.specs.List.{AllByRecursion as All}
+use Rattle.std.proofs.Common.{◌≡◌, ℕ, zero, suc, ◌+◌, ◌<◌, Bool, true, false, List, [], ◌∷◌, ◌++◌, length, get_or, take, drop, None, Ok, Err, Option, Result, sym, refl, ap, ◌∙◌, subst, arith, MatchResult}
 use Rattle.std.proofs.lemmas.List.{length-append, append-nil, map-append, take-append-drop, drop_more}
-use Rattle.rows.specs.Limits.{most_rows}
 use Rattle.rows.specs.Rows.{Constraint, constraint}
 use Rattle.rows.proofs.Alls.{unjoin}
 use Rattle.engine.specs.declared.refusal.Refusal.{Refusal}

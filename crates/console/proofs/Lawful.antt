@@ -1,23 +1,22 @@
 -- The law of Ask and of Blame from the engine's meaning. Assumes nothing.
-use Rattle.std.proofs.Common.{◌≡◌, ℕ, zero, suc, ◌+◌, ◌<◌, ◌≤◌, ◌⊎◌, ◌↔◌, List, [], ◌∷◌, ◌++◌, length, get_or, take, ℤ, pos, ◌+ℤ◌, ◌*ℤ◌, Some, None, Ok, Err, Option, Result, sym, refl, ap, ◌∙◌, subst, arith}
+use Rattle.std.proofs.Common.{◌≡◌, ℕ, zero, suc, ◌≤◌, ◌⊎◌, ◌↔◌, List, [], ◌∷◌, get_or, take, ℤ, pos, ◌+ℤ◌, ◌*ℤ◌, Option, Result, sym, refl, ap, ◌∙◌, subst, arith}
 use Rattle.std.proofs.lemmas.Int.{ints}
 use Rattle.std.specs.List.{AllByRecursion as All}
 use Rattle.integers.specs.Vectors.{dot}
-use Rattle.rows.specs.Rows.{Constraint, Compares, Meets, MeetsAll, Feasible, Infeasible}
-use Rattle.rows.proofs.Alls.{none_some}
+use Rattle.rows.specs.Rows.{Constraint, Compares, MeetsAll, Feasible, Infeasible}
 use Rattle.rows.proofs.Excluding.{excludes}
 use Rattle.engine.specs.declared.fault.Fault.{Fault}
 use Rattle.engine.specs.declared.refusal.Refusal.TheVariants.{TooLarge}
 use Rattle.engine.specs.declared.refusal.Refusal.TheVariants.{Feasible as HasPreset}
-use Rattle.engine.specs.Verdicts.{Verdict, Verdict.preset, Verdict.clash, Verdict.fault, ValidRow, Valid, Right}
+use Rattle.engine.specs.Verdicts.{Verdict, ValidRow, Valid, Right}
 use Rattle.engine.specs.Exactness.{Taken}
 use Rattle.plans.specs.Plans.{PlanView}
 use Rattle.plans.specs.Sounding.{sounding_rows}
 use Rattle.rows.specs.Clashes.{Clash}
-use Rattle.console.specs.Replies.{Reply, Reply.done, Reply.preset, Reply.clash, Reply.blamed, Reply.refused}
+use Rattle.console.specs.Replies.{Reply}
 use Rattle.console.specs.Exact.{walk_reply, blame_reply}
 use Rattle.console.specs.Law.{all_rows, set_down, IsClash, IsMet, IsTooLarge, AskLaw, BlameLaw}
-use Rattle.console.specs.Walks.{numbered, rows_of, numbers_of, Walk, or_fault, first_fault, Minimal, walked, outcome}
+use Rattle.console.specs.Walks.{numbered, Walk, or_fault, first_fault, walked, outcome}
 use Rattle.console.proofs.Walking.{walk_is, walk_minimal, walk_exists}
 use Rattle.console.proofs.Numbering.{rows_numbered}
 use Rattle.console.proofs.Showing.{clash_spread}

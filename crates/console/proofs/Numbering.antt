@@ -1,12 +1,11 @@
 -- The sounding rules with their numbers: one rule muted, and one rule more. Assumes nothing.
-use Rattle.std.proofs.Common.{◌≡◌, ℕ, zero, suc, ◌+◌, ◌-◌, ◌<◌, ◌≤◌, Bool, true, false, cond, eqb, List, [], ◌∷◌, ◌++◌, length, get_or, take, drop, set, replicate, sym, refl, ap, ◌∙◌, subst, arith}
-use Rattle.std.proofs.lemmas.List.{append_assoc, append-nil, map-append, length-map, take-append-drop, length-take-le, take_more, take_more_set, drop_more}
-use Rattle.std.proofs.lemmas.Bool.{eq-eqb, ne_eqb}
+use Rattle.std.proofs.Common.{◌≡◌, ℕ, zero, suc, ◌+◌, ◌<◌, ◌≤◌, Bool, true, false, List, [], ◌∷◌, ◌++◌, length, get_or, take, drop, sym, refl, ap, ◌∙◌, subst, arith}
+use Rattle.std.proofs.lemmas.List.{append-nil, map-append, length-map, take-append-drop, length-take-le, take_more, drop_more}
 use Rattle.rows.specs.Rows.{Constraint, constraint}
 use Rattle.plans.specs.declared.rule.Rule.{Rule}
 use Rattle.plans.specs.Rules.{RuleView, rule_view, rule_views}
 use Rattle.plans.specs.Sounding.{sounding_rows}
-use Rattle.console.specs.Walks.{numbered, rows_of, numbers_of}
+use Rattle.console.specs.Walks.{numbered, rows_of}
 use Rattle.console.specs.Marks.{with_mark, marked}
 use Rattle.console.proofs.Restoring.{length_marked}
 

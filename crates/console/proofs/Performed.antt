@@ -1,14 +1,14 @@
 -- The replies of the calls, as the law of runs wants them. Assumes nothing.
-use Rattle.std.proofs.Common.{◌≡◌, ℕ, zero, suc, ◌+◌, ◌<◌, ◌≤◌, Bool, true, false, cond, eqb, ◌⊎◌, List, [], ◌∷◌, ◌++◌, length, take, replicate, ℤ, pos, Some, None, Ok, Err, Option, Result, sym, refl, ap, ◌∙◌, subst, arith}
-use Rattle.std.proofs.lemmas.List.{take-append-le, take_all, append_assoc, append-nil, map-append}
-use Rattle.std.proofs.lemmas.Bool.{eq-eqb, ne_eqb, eqb-true, eqb-false}
+use Rattle.std.proofs.Common.{◌≡◌, ℕ, ◌<◌, ◌≤◌, Bool, true, false, cond, eqb, ◌⊎◌, List, [], length, take, replicate, ℤ, pos, Some, None, Ok, Err, Option, Result, sym, refl, ap, ◌∙◌, arith}
+use Rattle.std.proofs.lemmas.List.{take-append-le, take_all}
+use Rattle.std.proofs.lemmas.Bool.{ne_eqb, eqb-false}
 use Rattle.rows.specs.Limits.{most_rows}
 use Rattle.rows.specs.Rows.{Constraint, Feasible, Infeasible}
 use Rattle.rows.proofs.Alls.{none_some}
 use Rattle.engine.specs.declared.fault.Fault.{Fault}
 use Rattle.engine.specs.declared.refusal.Refusal.{Refusal}
-use Rattle.engine.specs.declared.refusal.Refusal.TheVariants.{NoPlan, TooLarge}
-use Rattle.engine.specs.Verdicts.{Verdict, Verdict.preset, Verdict.clash, Verdict.fault, Valid, Right}
+use Rattle.engine.specs.declared.refusal.Refusal.TheVariants.{NoPlan}
+use Rattle.engine.specs.Verdicts.{Verdict, Valid, Right}
 use Rattle.engine.specs.Interface.{Does, first_refusal, refused_if}
 use Rattle.plans.specs.Rules.{RuleView}
 use Rattle.plans.specs.Plans.{PlanView}
@@ -17,11 +17,10 @@ use Rattle.plans.specs.Sounding.{sounding_rows}
 use Rattle.console.specs.declared.sheet.Sheet.{Sheet}
 use Rattle.console.specs.Asking.{table_refusal, spread, padded, AskedAt, Asked}
 use Rattle.console.specs.Blaming.{Names, BlamedAt, Blamed}
-use Rattle.console.specs.Marks.{marks_from}
-use Rattle.console.specs.Replies.{Reply, Reply.done, Reply.preset, Reply.clash, Reply.blamed, Reply.refused, marked_numbers}
+use Rattle.console.specs.Replies.{Reply, marked_numbers}
 use Rattle.console.specs.Runs.{unless_refused}
 use Rattle.console.specs.Law.{set_down, result_reply, edit_reply, unless, AskLaw, BlameLaw}
-use Rattle.console.specs.Walks.{numbered, numbers_of, tried, walked}
+use Rattle.console.specs.Walks.{numbered, walked}
 use Rattle.console.proofs.Ascending.{walk_read_back}
 use Rattle.console.proofs.Feeding.{above_zero}
 use Rattle.console.proofs.Spreading.{length_spread}

@@ -1,5 +1,5 @@
 -- A run with one command more. Assumes nothing.
-use Rattle.std.proofs.Common.{◌≡◌, ℕ, zero, suc, ◌+◌, ◌<◌, ◌≤◌, ◌⊎◌, List, [], ◌∷◌, ◌++◌, length, get_or, drop, Option, sym, refl, ap, ◌∙◌, subst, inl, inr, arith}
+use Rattle.std.proofs.Common.{◌≡◌, ℕ, zero, suc, ◌<◌, ◌⊎◌, List, [], ◌∷◌, ◌++◌, length, get_or, drop, Option, sym, refl, ap, ◌∙◌, subst, inl, inr, arith}
 use Rattle.std.proofs.lemmas.List.{length-append}
 use Rattle.rows.specs.Rows.{Constraint}
 use Rattle.engine.specs.declared.refusal.Refusal.{Refusal}
@@ -7,7 +7,7 @@ use Rattle.engine.specs.Verdicts.{Verdict, Valid}
 use Rattle.plans.specs.Plans.{PlanView, no_plan}
 use Rattle.plans.specs.Sounding.{sounding_rows}
 use Rattle.console.specs.declared.command.Command.{Command}
-use Rattle.console.specs.Replies.{Reply, Reply.done}
+use Rattle.console.specs.Replies.{Reply}
 use Rattle.console.specs.Runs.{next, plan_after}
 use Rattle.console.specs.Law.{Replied, RunLaw, PlansValid}
 use Rattle.console.specs.Exact.{reply_of, replies}

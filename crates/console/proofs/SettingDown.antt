@@ -1,5 +1,5 @@
 -- An answer that was read, set down on the sheet. Assumes nothing.
-use Rattle.std.proofs.Common.{◌≡◌, ℕ, Bool, List, length, take, replicate, ℤ, pos, Some, None, Ok, Err, Option, sym, refl, ap, ◌∙◌, subst}
+use Rattle.std.proofs.Common.{◌≡◌, ℕ, Bool, List, length, replicate, ℤ, pos, Some, None, Ok, Option, sym, ap, ◌∙◌, subst}
 use Rattle.std.proofs.lemmas.Bool.{ne_eqb}
 use Rattle.rows.specs.Limits.{faders}
 use Rattle.rows.specs.Rows.{Constraint}
@@ -7,8 +7,8 @@ use Rattle.rows.specs.declared.weights.Weights.{Weights}
 use Rattle.engine.specs.declared.answer.Answer.TheVariants.{Clash}
 use Rattle.engine.specs.declared.refusal.Refusal.{Refusal}
 use Rattle.engine.specs.declared.refusal.Refusal.TheVariants.{NoPlan}
-use Rattle.engine.specs.Verdicts.{Verdict, Verdict.preset, Verdict.clash, Verdict.fault}
-use Rattle.engine.specs.Interface.{Answer, Answer.preset, Answer.clash, first_refusal, refused_if}
+use Rattle.engine.specs.Verdicts.{Verdict}
+use Rattle.engine.specs.Interface.{Answer, first_refusal, refused_if}
 use Rattle.engine.specs.Deciding.{RepliesAt}
 use Rattle.plans.specs.Rules.{RuleView}
 use Rattle.plans.specs.Plans.{PlanView}

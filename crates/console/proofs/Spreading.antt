@@ -1,6 +1,6 @@
 -- Weights set down by rule number, one rule after another. Assumes nothing.
-use Rattle.std.proofs.Common.{◌≡◌, ℕ, zero, suc, ◌+◌, ◌-◌, ◌<◌, ◌≤◌, Bool, true, false, List, [], ◌∷◌, ◌++◌, length, get_or, take, drop, set, replicate, ℤ, pos, sym, refl, ap, ◌∙◌, subst, arith}
-use Rattle.std.proofs.lemmas.List.{append_assoc, append-nil, length-map, length-drop, take-append-drop, take_more, take_more_set, drop_more, drop-drop, get_or-drop, take_all}
+use Rattle.std.proofs.Common.{◌≡◌, ℕ, suc, ◌+◌, ◌-◌, ◌<◌, ◌≤◌, Bool, true, false, List, [], ◌∷◌, ◌++◌, length, get_or, take, drop, set, replicate, ℤ, pos, sym, refl, ap, ◌∙◌, arith}
+use Rattle.std.proofs.lemmas.List.{append_assoc, append-nil, length-map, length-drop, take-append-drop, take_more, take_more_set, drop_more, drop-drop, get_or-drop}
 use Rattle.rows.specs.Limits.{most_rows}
 use Rattle.plans.specs.declared.rule.Rule.{Rule}
 use Rattle.plans.specs.Rules.{RuleView, rule_view, rule_views}

@@ -1,9 +1,7 @@
 -- One turn of the walk over the rules themselves. Assumes nothing.
-use Rattle.std.proofs.Common.{◌≡◌, ℕ, ◌+◌, ◌<◌, ◌≤◌, Bool, true, false, cond, ltb, List, [], ◌∷◌, ◌++◌, length, get_or, drop, ℤ, Some, None, Ok, Err, Option, Result, sym, refl, ap, ◌∙◌, subst, arith}
+use Rattle.std.proofs.Common.{◌≡◌, ℕ, ◌+◌, ◌<◌, ◌≤◌, Bool, true, false, cond, ltb, List, [], ◌∷◌, ◌++◌, length, get_or, Some, None, Ok, Err, Option, Result, sym, refl, ap, ◌∙◌, subst, arith}
 use Rattle.std.proofs.lemmas.List.{take_all, drop_all}
 use Rattle.std.proofs.lemmas.Bool.{le-ltb, ltb-false}
-use Rattle.rows.specs.declared.preset.Preset.{Preset}
-use Rattle.rows.specs.declared.weights.Weights.{Weights}
 use Rattle.rows.specs.Limits.{most_rows}
 use Rattle.rows.specs.Rows.{Constraint, constraint}
 use Rattle.engine.specs.declared.answer.Answer.{Answer as Kept}
@@ -11,8 +9,8 @@ use Rattle.engine.specs.declared.answer.Answer.TheVariants.{Nothing, Preset as K
 use Rattle.engine.specs.declared.fault.Fault.{Fault}
 use Rattle.engine.specs.declared.refusal.Refusal.{Refusal}
 use Rattle.engine.specs.declared.refusal.Refusal.TheVariants.{TooLarge, Feasible, ShortTable}
-use Rattle.engine.specs.Verdicts.{Verdict, Verdict.preset, Verdict.clash, Verdict.fault, Valid}
-use Rattle.engine.specs.Interface.{Answer, Answer.none, Answer.preset, Answer.clash, refused_if}
+use Rattle.engine.specs.Verdicts.{Verdict, Valid}
+use Rattle.engine.specs.Interface.{Answer, refused_if}
 use Rattle.engine.specs.States.{holds_clash}
 use Rattle.engine.specs.Deciding.{RepliesAt}
 use Rattle.plans.specs.declared.rule.Rule.{Rule}

@@ -1,12 +1,11 @@
 -- The walk by an engine's verdicts is the walk by whether levels exist, and it ends in a minimal infeasible set. Assumes nothing.
-use Rattle.std.proofs.Common.{◌≡◌, ℕ, zero, suc, ◌+◌, ◌<◌, ◌≤◌, ◌⊎◌, List, [], ◌∷◌, ◌++◌, map, length, take, drop, Some, None, Ok, Err, Option, Result, sym, refl, ap, ◌∙◌, subst, inl, inr, arith}
+use Rattle.std.proofs.Common.{◌≡◌, ℕ, zero, suc, ◌+◌, ◌<◌, ◌≤◌, ◌⊎◌, List, [], ◌∷◌, ◌++◌, length, take, drop, Option, Result, sym, refl, subst, inl, inr, arith}
 use Rattle.std.specs.List.{AllByRecursion as All}
 use Rattle.std.proofs.lemmas.List.{append_assoc, append-nil, map-append}
-use Rattle.rows.specs.Limits.{most_rows}
-use Rattle.rows.specs.Rows.{Constraint, MeetsAll, Feasible, Infeasible}
+use Rattle.rows.specs.Rows.{Constraint, Feasible, Infeasible}
 use Rattle.rows.proofs.Excluding.{excludes}
 use Rattle.engine.specs.declared.fault.Fault.{Fault}
-use Rattle.engine.specs.Verdicts.{Verdict, Verdict.preset, Verdict.clash, Verdict.fault, ValidRow, Valid, Right}
+use Rattle.engine.specs.Verdicts.{Verdict, ValidRow, Valid, Right}
 use Rattle.console.specs.Walks.{rows_of, Walk, Walk.done, Walk.goes, Walk.stays, or_fault, first_fault, Minimal, tried, walked, outcome}
 
 -- ---- lists with one place left out

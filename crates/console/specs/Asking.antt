@@ -1,11 +1,11 @@
 -- What the engine says of the sounding rules, and how it is set down. Assumes nothing.
-use Rattle.std.specs.Prelude.{◌≡◌, ℕ, ◌-◌, cond, List, [], ◌∷◌, ◌++◌, length, drop, replicate, ℤ, pos, Some, None, Option, Result, nat_lt, slice_index_or}
+use Rattle.std.specs.Prelude.{ℕ, ◌-◌, cond, List, [], ◌∷◌, ◌++◌, length, drop, replicate, ℤ, pos, Some, None, Option, Result, nat_lt, slice_index_or}
 use Rattle.rows.specs.Limits.{faders, most_rows}
 use Rattle.rows.specs.Rows.{Constraint}
 use Rattle.engine.specs.declared.answer.Answer.{Answer as Kept}
 use Rattle.engine.specs.declared.refusal.Refusal.{Refusal}
 use Rattle.engine.specs.declared.refusal.Refusal.TheVariants.{TooLarge, ShortTable}
-use Rattle.engine.specs.Verdicts.{Verdict, Verdict.preset, Verdict.clash, Verdict.fault}
+use Rattle.engine.specs.Verdicts.{Verdict}
 use Rattle.engine.specs.Interface.{Does, first_refusal, refused_if}
 use Rattle.engine.specs.Deciding.{RepliesAt}
 use Rattle.plans.specs.Rules.{RuleView}

@@ -5,7 +5,7 @@ use Rattle.rows.specs.Rows.{Constraint}
 use Rattle.engine.specs.declared.fault.Fault.{Fault}
 use Rattle.engine.specs.declared.refusal.Refusal.{Refusal}
 use Rattle.engine.specs.declared.refusal.Refusal.TheVariants.{TooLarge, Feasible}
-use Rattle.engine.specs.Verdicts.{Verdict, Verdict.preset, Verdict.clash, Verdict.fault}
+use Rattle.engine.specs.Verdicts.{Verdict}
 use Rattle.engine.specs.Interface.{Does, first_refusal}
 use Rattle.plans.specs.Plans.{PlanView}
 use Rattle.plans.specs.Edits.{closed_refusal}

@@ -5,14 +5,14 @@ use Rattle.engine.specs.declared.fault.Fault.{Fault}
 use Rattle.engine.specs.declared.refusal.Refusal.{Refusal}
 use Rattle.engine.specs.declared.refusal.Refusal.TheVariants.{TooLarge}
 use Rattle.engine.specs.declared.refusal.Refusal.TheVariants.{Feasible as HasPreset}
-use Rattle.engine.specs.Verdicts.{Verdict, Verdict.preset, Verdict.clash, Verdict.fault}
+use Rattle.engine.specs.Verdicts.{Verdict}
 use Rattle.engine.specs.Interface.{first_refusal}
 use Rattle.plans.specs.Plans.{PlanView}
 use Rattle.plans.specs.Edits.{closed_refusal}
 use Rattle.plans.specs.Sounding.{sounding_rows}
 use Rattle.console.specs.declared.command.Command.{Command}
 use Rattle.console.specs.declared.command.Command.TheVariants.{Open, Add, Lift, Mute, Sound, Ask, Blame}
-use Rattle.console.specs.Replies.{Reply, Reply.blamed, Reply.refused}
+use Rattle.console.specs.Replies.{Reply}
 use Rattle.console.specs.Runs.{edit_refusal, next}
 use Rattle.console.specs.Law.{set_down, edit_reply}
 use Rattle.console.specs.Walks.{numbered, numbers_of, walked}

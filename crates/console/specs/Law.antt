@@ -7,7 +7,7 @@ use Rattle.engine.specs.declared.fault.Fault.{Fault}
 use Rattle.engine.specs.declared.refusal.Refusal.{Refusal}
 use Rattle.engine.specs.declared.refusal.Refusal.TheVariants.{TooLarge}
 use Rattle.engine.specs.declared.refusal.Refusal.TheVariants.{Feasible as HasPreset}
-use Rattle.engine.specs.Verdicts.{Verdict, Verdict.preset, Verdict.clash, Verdict.fault, Valid}
+use Rattle.engine.specs.Verdicts.{Verdict, Valid}
 use Rattle.engine.specs.Exactness.{Taken}
 use Rattle.engine.specs.Interface.{first_refusal}
 use Rattle.plans.specs.Rules.{RuleView}
@@ -16,8 +16,8 @@ use Rattle.plans.specs.Edits.{closed_refusal}
 use Rattle.plans.specs.Sounding.{sounding_rows}
 use Rattle.console.specs.declared.command.Command.{Command}
 use Rattle.console.specs.declared.command.Command.TheVariants.{Open, Add, Lift, Mute, Sound, Ask, Blame}
-use Rattle.console.specs.Asking.{spread, table_refusal}
-use Rattle.console.specs.Replies.{Reply, Reply.done, Reply.preset, Reply.clash, Reply.blamed, Reply.refused}
+use Rattle.console.specs.Asking.{spread}
+use Rattle.console.specs.Replies.{Reply}
 use Rattle.console.specs.Runs.{edit_refusal, plan_after}
 use Rattle.console.specs.Walks.{numbered, rows_of, numbers_of, Walk, first_fault, Minimal}
 

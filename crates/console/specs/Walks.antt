@@ -1,8 +1,8 @@
 -- How a minimal infeasible set is found: the rules are tried one after another. Assumes nothing.
-use Rattle.std.specs.Prelude.{◌≡◌, ℕ, ◌+◌, ◌<◌, cond, List, [], ◌∷◌, ◌++◌, map, length, take, drop, Some, None, Ok, Err, Option, Result}
+use Rattle.std.specs.Prelude.{ℕ, ◌+◌, ◌<◌, cond, List, [], ◌∷◌, ◌++◌, map, length, take, drop, Some, None, Ok, Err, Option, Result}
 use Rattle.rows.specs.Rows.{Constraint, Feasible, Infeasible}
 use Rattle.engine.specs.declared.fault.Fault.{Fault}
-use Rattle.engine.specs.Verdicts.{Verdict, Verdict.preset, Verdict.clash, Verdict.fault}
+use Rattle.engine.specs.Verdicts.{Verdict}
 use Rattle.plans.specs.Rules.{RuleView}
 
 -- the sounding rules with their numbers, in number order, from number i on

@@ -1,9 +1,9 @@
 -- From the rows to the verdict, by the steps of the program. Assumes nothing.
-use Rattle.std.proofs.Common.{◌≡◌, ℕ, ◌+◌, ◌<◌, ◌≤◌, Bool, true, false, cond, List, [], ◌∷◌, length, Some, None, Ok, Err, Option, Result, sym, refl, ap, ◌∙◌, subst, arith}
+use Rattle.std.proofs.Common.{◌≡◌, ℕ, ◌+◌, ◌<◌, Bool, true, false, cond, List, [], ◌∷◌, length, Some, None, Option, Result, sym, ap, ◌∙◌, subst, arith}
 use Rattle.engine.specs.declared.answer.Answer.{Answer}
 use Rattle.engine.specs.declared.fault.Fault.{Fault}
 use Rattle.rows.specs.Rows.{Constraint}
-use Rattle.engine.specs.Verdicts.{Verdict, Verdict.preset, Verdict.clash, Verdict.fault, form_not_taken}
+use Rattle.engine.specs.Verdicts.{Verdict, form_not_taken}
 use Rattle.engine.specs.States.{Says}
 use Rattle.elimination.specs.Table.{Line, all_eliminated}
 use Rattle.elimination.specs.Working.{first_equation, is_equation, carried, concluded, worked_out, elimination_verdict}

@@ -1,5 +1,5 @@
 -- The first rows of a table set aside one by one, and the table after a stage. Assumes nothing.
-use Rattle.std.proofs.Common.{◌≡◌, ℕ, suc, ◌+◌, ◌-◌, ◌<◌, ◌≤◌, List, [], ◌∷◌, ◌++◌, map, length, get_or, take, drop, set, Ok, Err, Result, sym, refl, ap, ◌∙◌, subst, arith}
+use Rattle.std.proofs.Common.{◌≡◌, ℕ, suc, ◌+◌, ◌-◌, ◌<◌, ◌≤◌, List, [], ◌∷◌, ◌++◌, map, length, get_or, take, drop, set, Ok, Err, Result, sym, ap, ◌∙◌, arith}
 use Rattle.std.proofs.lemmas.List.{take_more, take_more_set, take-append-drop, take-take, drop-take, drop-drop, drop-set-lt, get_or-drop, map-append, length-map, length-take-le}
 use Rattle.engine.specs.declared.fault.Fault.{Fault}
 use Rattle.elimination.specs.declared.cell.Cell.{Cell}

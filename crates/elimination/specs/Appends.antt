@@ -1,9 +1,9 @@
 -- What it is to append the sums of pairs to a table. Assumes nothing.
-use Rattle.std.specs.Prelude.{◌≡◌, ℕ, ◌≤◌, Bool, ◌&&◌, List, [], ◌∷◌, map, length, take, drop, Ok, Err, Result}
+use Rattle.std.specs.Prelude.{◌≡◌, ℕ, ◌≤◌, Bool, ◌&&◌, List, map, length, take, drop, Ok, Err, Result}
 use Rattle.engine.specs.declared.fault.Fault.{Fault}
 use Rattle.elimination.specs.declared.cell.Cell.{Cell}
 use Rattle.elimination.specs.Table.{Line, room, sums, lowers, stands, coefficient, is_positive, is_negative}
-use Rattle.elimination.specs.Lines.{line, lines}
+use Rattle.elimination.specs.Lines.{lines}
 
 -- a row that limits fader k from above, and one that limits it from below
 abbrev pub is_upper : ℕ → Line → Bool

@@ -1,5 +1,5 @@
 -- How a fader's level is chosen from the rows set aside for it, with the levels of the faders above it given. Assumes nothing.
-use Rattle.std.specs.Prelude.{◌≡◌, ℕ, zero, suc, ◌+◌, ◌*◌, ◌/◌, Bool, true, false, cond, not, ◌&&◌, ◌||◌, List, [], ◌∷◌, map, set, ℤ, pos, ◌+ℤ◌, ◌-ℤ◌, ◌*ℤ◌, neg_ℤ, Some, None, filter, Option, ◌==◌, int_div, int_lt, slice_set, unsigned_abs}
+use Rattle.std.specs.Prelude.{ℕ, ◌*◌, ◌/◌, Bool, false, cond, not, ◌&&◌, ◌||◌, List, [], ◌∷◌, map, ℤ, pos, ◌+ℤ◌, ◌-ℤ◌, ◌*ℤ◌, neg_ℤ, Some, None, filter, Option, ◌==◌, int_div, int_lt, slice_set, unsigned_abs}
 use Rattle.std.specs.List.{best_of}
 use Rattle.integers.specs.Vectors.{dot, scale}
 use Rattle.integers.specs.Divisors.{gcd_all}

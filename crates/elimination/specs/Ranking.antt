@@ -1,5 +1,5 @@
 -- The tests by which limits are chosen are orders. Assumes nothing.
-use Rattle.std.specs.Prelude.{◌≡◌, ℕ, ◌+◌, ◌≤◌, Bool, true, false, not, ◌&&◌, ◌||◌, ℤ, pos, ◌*ℤ◌, int_lt, refl}
+use Rattle.std.specs.Prelude.{◌≡◌, ◌+◌, ◌≤◌, Bool, true, false, not, ◌&&◌, ◌||◌, ℤ, pos, ◌*ℤ◌, int_lt, refl}
 use Rattle.std.proofs.Common.{arith}
 use borrow.Author.Differences.{lt-true, lt-false}
 use Rattle.std.proofs.lemmas.Bool.{false≢true, not-true, not-false, not_from_false}

@@ -2,7 +2,7 @@
 use Rattle.std.specs.Prelude.{◌≡◌, ℕ, ◌*◌, ◌<◌, Bool, true, false, ◌&&◌, ◌||◌, ◌⊎◌, List, [], ◌∷◌, map, length, get_or, ℤ, pos, negsuc, neg_ℤ, Some, None, Option, nat_lt, slice_index_or, unsigned_abs, refl}
 use Rattle.std.proofs.Common.{sym, subst, subst₂, inl, inr, mul-pos}
 use Rattle.std.specs.List.{AllByRecursion}
-use Rattle.std.proofs.lemmas.Bool.{true≢false, and_parts, and_from, cases_Bool}
+use Rattle.std.proofs.lemmas.Bool.{and_parts, and_from, cases_Bool}
 use Rattle.std.proofs.ByRecursion.{All-weaker, kept_by_passes}
 use Rattle.elimination.specs.Table.{Line, coefficient, stands, is_positive, is_negative, uppers, lowers, size, combined, pairs, set_aside}
 use Rattle.elimination.specs.Levels.{Levels, Limit, remaining, upper_limit, lower_limit, also, limits, better_upper, better_lower, first_best, value, with_level, placed, chosen}

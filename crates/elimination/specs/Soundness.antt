@@ -16,7 +16,7 @@ use Rattle.engine.specs.declared.fault.Fault.{Fault}
 use Rattle.rows.specs.Limits.{faders, most_rows, Within}
 use Rattle.rows.specs.Rows.{Constraint, Compares, MeetsAll}
 use Rattle.rows.specs.Clashes.{Weighs, Weighed, total, Strictly, Falsehood, Clash}
-use Rattle.engine.specs.Verdicts.{Verdict, Verdict.clash, Verdict.fault, Valid, Right, form_not_taken}
+use Rattle.engine.specs.Verdicts.{Verdict, Valid, Right, form_not_taken}
 use Rattle.rows.proofs.Fits.{zero_within, within_take}
 use Rattle.rows.proofs.Weighing.{column_used, falsehood_used}
 use Rattle.elimination.specs.Table.{Line, coefficient, stands, all_eliminated}

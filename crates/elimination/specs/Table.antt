@@ -1,5 +1,5 @@
 -- Carried rows and the elimination of one fader from a table of them. Assumes nothing.
-use Rattle.std.specs.Prelude.{◌≡◌, ℕ, zero, suc, ◌+◌, ◌/◌, Bool, true, false, cond, not, ◌&&◌, ◌||◌, List, [], ◌∷◌, ◌++◌, map, length, ℤ, pos, negsuc, ◌+ℤ◌, ◌*ℤ◌, is_some, Some, None, Ok, Err, filter, Option, Result, nat_lt, slice_index_or, unsigned_abs}
+use Rattle.std.specs.Prelude.{ℕ, zero, suc, ◌+◌, ◌/◌, Bool, true, false, cond, not, ◌&&◌, ◌||◌, List, [], ◌∷◌, ◌++◌, map, length, ℤ, pos, negsuc, ◌+ℤ◌, ◌*ℤ◌, is_some, Some, None, Ok, Err, filter, Option, Result, nat_lt, slice_index_or, unsigned_abs}
 use Rattle.std.specs.List.{flat_map}
 use Rattle.integers.specs.Vectors.{add, scale}
 use Rattle.integers.specs.Divisors.{gcd_of}

@@ -1,11 +1,11 @@
 -- The working of the elimination engine, from rows to its verdict. Assumes nothing.
-use Rattle.std.specs.Prelude.{◌≡◌, ℕ, zero, suc, ◌+◌, Bool, true, false, cond, not, ◌&&◌, ◌||◌, ltb, List, [], ◌∷◌, length, take, set, replicate, ℤ, pos, Some, None, Ok, Err, count_by, filter, Option, Result, int_lt, slice_set, unsigned_abs}
+use Rattle.std.specs.Prelude.{ℕ, zero, suc, ◌+◌, Bool, true, false, cond, not, ◌&&◌, ◌||◌, ltb, List, [], ◌∷◌, length, take, replicate, pos, Some, None, Ok, Err, count_by, filter, Option, Result, int_lt, slice_set, unsigned_abs}
 use Rattle.rows.specs.declared.kind.Kind.{Kind}
 use Rattle.rows.specs.declared.kind.Kind.TheVariants.{AtMost, Below, Equal}
 use Rattle.engine.specs.declared.fault.Fault.{Fault}
 use Rattle.rows.specs.Limits.{faders, most_rows}
 use Rattle.rows.specs.Rows.{Constraint}
-use Rattle.engine.specs.Verdicts.{Verdict, Verdict.preset, Verdict.clash, Verdict.fault, number_beyond, form_not_taken}
+use Rattle.engine.specs.Verdicts.{Verdict, number_beyond, form_not_taken}
 use Rattle.elimination.specs.Table.{Line, stands, all_eliminated}
 use Rattle.elimination.specs.Levels.{Levels, first_best, set_fader}
 

@@ -6,9 +6,9 @@ use Rattle.engine.specs.declared.refusal.Refusal.{Refusal}
 use Rattle.engine.specs.declared.refusal.Refusal.TheVariants.{TooLarge}
 use Rattle.engine.specs.declared.state.State.{State}
 use Rattle.rows.specs.Rows.{Constraint}
-use Rattle.engine.specs.Verdicts.{Verdict, Verdict.preset, Verdict.clash, Verdict.fault}
+use Rattle.engine.specs.Verdicts.{Verdict}
 use Rattle.engine.specs.Interface.{Answer, View, Does, Settles, Decided, DecidedAt, decide_refusal, answered}
-use Rattle.engine.specs.States.{kept_answer, state_view, state_rows, Says, Settled}
+use Rattle.engine.specs.States.{state_view, state_rows, Says, Settled}
 use Rattle.engine.proofs.StateRows.{length_state_rows}
 
 module _ {U : Type 0} (v w : View) where

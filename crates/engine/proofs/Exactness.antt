@@ -1,6 +1,6 @@
 -- A right verdict is exact. Assumes nothing.
 use Rattle.std.proofs.Common.{ℕ, List}
-use Rattle.rows.specs.Rows.{Constraint, Infeasible}
+use Rattle.rows.specs.Rows.{Constraint}
 use Rattle.engine.specs.Verdicts.{Verdict, Verdict.preset, Verdict.clash, Verdict.fault, Right}
 use Rattle.engine.specs.Exactness.{Taken, Exact}
 use Rattle.rows.proofs.Excluding.{excludes}

@@ -7,7 +7,7 @@ use Rattle.rows.specs.declared.row.Row.{Row}
 use Rattle.engine.specs.declared.refusal.Refusal.{Refusal}
 use Rattle.engine.specs.declared.refusal.Refusal.TheVariants.{BadCount, NoPlan, Full}
 use Rattle.rows.specs.Limits.{faders, most_rows}
-use Rattle.rows.specs.Rows.{Constraint, constraint, constraints, UsedBelow, unused, first_unused}
+use Rattle.rows.specs.Rows.{Constraint, constraint, constraints, UsedBelow, first_unused}
 use Rattle.engine.specs.Verdicts.{ValidRow, Valid}
 use Rattle.engine.specs.Interface.{View, Does, first_refusal, refused_if, count_refusal, unused_refusal, take_refusal, Took}
 use Rattle.engine.specs.Deciding.{takes_refusal, rows_refusal, loaded}

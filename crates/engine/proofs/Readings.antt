@@ -5,7 +5,7 @@ use Rattle.std.proofs.lemmas.Bool.{cond-true, lt-ltb}
 use Rattle.engine.specs.declared.refusal.Refusal.{Refusal}
 use Rattle.engine.specs.declared.refusal.Refusal.TheVariants.{NoAnswer}
 use Rattle.rows.specs.Limits.{largest, faders, EachWithin}
-use Rattle.engine.specs.Interface.{Answer, Answer.none, Answer.preset, Answer.clash, View, numerator_reply, denominator_reply, weight_reply}
+use Rattle.engine.specs.Interface.{Answer, View, numerator_reply, denominator_reply, weight_reply}
 use Rattle.engine.specs.Deciding.{Levels, Loads, Readable}
 use Rattle.engine.proofs.StateRows.{weight_at}
 

@@ -6,7 +6,7 @@ use Rattle.engine.specs.declared.refusal.Refusal.{Refusal}
 use Rattle.engine.specs.declared.refusal.Refusal.TheVariants.{NoPlan, ShortTable}
 use Rattle.rows.specs.Rows.{Constraint}
 use Rattle.rows.specs.Clashes.{Weighed}
-use Rattle.engine.specs.Verdicts.{Verdict, Verdict.preset, Verdict.clash, Verdict.fault, Right}
+use Rattle.engine.specs.Verdicts.{Verdict, Right}
 use Rattle.engine.specs.Interface.{View, first_refusal, refused_if, Decided, DecidedAt, Settles}
 use Rattle.engine.specs.States.{kept_answer}
 use Rattle.engine.specs.Deciding.{rows_refusal, loaded, Tells, Replies, RepliesAt, Readable}

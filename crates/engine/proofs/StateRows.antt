@@ -1,7 +1,7 @@
 -- The rows that the shared state holds, and the search for a coefficient that no fader has. Assumes nothing.
-use Rattle.std.proofs.Common.{◌≡◌, ℕ, ◌+◌, ◌<◌, ◌≤◌, Bool, true, false, cond, ◌&&◌, eqb, ltb, leb, List, [], ◌∷◌, ◌++◌, length, get_or, take, drop, set, ℤ, pos, negsuc, nat_abs, Some, None, Ok, Err, Option, sym, refl, ap, ◌∙◌, subst, arith}
-use Rattle.std.proofs.lemmas.List.{length-map, length-take-le, take_more_set, map-append, at_drop_more, at_drop_all}
-use Rattle.std.proofs.lemmas.Bool.{ne_eqb, lt-leb, leb-false, ltb-false}
+use Rattle.std.proofs.Common.{◌≡◌, ℕ, ◌+◌, ◌<◌, Bool, cond, ltb, leb, List, [], ◌∷◌, ◌++◌, length, get_or, take, set, ℤ, pos, Ok, Err, ap, ◌∙◌, arith}
+use Rattle.std.proofs.lemmas.List.{length-map, length-take-le, take_more_set, map-append}
+use Rattle.std.proofs.lemmas.Bool.{ne_eqb, lt-leb}
 use Rattle.rows.specs.declared.row.Row.{Row}
 use Rattle.engine.specs.declared.state.State.{State}
 use Rattle.rows.specs.Rows.{Constraint, constraint, constraints, first_unused}

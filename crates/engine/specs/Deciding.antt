@@ -7,7 +7,7 @@ use Rattle.engine.specs.declared.refusal.Refusal.TheVariants.{Full, TooLarge, Sh
 use Rattle.rows.specs.Limits.{largest, faders, most_rows, EachWithin}
 use Rattle.rows.specs.Rows.{Constraint, first_unused}
 use Rattle.engine.specs.Verdicts.{Verdict}
-use Rattle.engine.specs.Interface.{Answer, Answer.none, Answer.preset, Answer.clash, View, first_refusal, refused_if, count_refusal, unused_refusal}
+use Rattle.engine.specs.Interface.{Answer, View, first_refusal, refused_if, count_refusal, unused_refusal}
 use Rattle.engine.specs.States.{Says}
 
 -- why a started engine that holds so many rows refuses one of those that follow

@@ -1,7 +1,7 @@
 -- What every verdict that is right says. Assumes nothing.
-use Rattle.std.specs.Prelude.{ℕ, ◌<◌, ◌↔◌, List, ℤ}
+use Rattle.std.specs.Prelude.{ℕ, ◌<◌, ◌↔◌, List}
 use Rattle.rows.specs.Rows.{Constraint, MeetsAll, Infeasible}
-use Rattle.engine.specs.Verdicts.{Verdict, Valid, Right}
+use Rattle.engine.specs.Verdicts.{Verdict, Valid}
 
 -- the engine takes a list where its verdict on it is no fault
 abbrev pub Taken : Verdict → Type 0

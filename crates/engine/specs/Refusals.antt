@@ -1,6 +1,5 @@
 -- Each refusal's number, and the numbers that it carries. Assumes nothing.
 use Rattle.std.specs.Prelude.{ℕ, List, [], ◌∷◌}
-use Rattle.engine.specs.declared.fault.Fault.{Fault}
 use Rattle.engine.specs.declared.refusal.Refusal.{Refusal}
 use Rattle.engine.specs.declared.refusal.Refusal.TheVariants.{BadCount, NoPlan, Full, BadKind, BadCoefficient, BadSide, NoRule, NoSuchRule, AlreadyMuted, AlreadySounding, TooLarge, Feasible, UnknownCommand, CutShort, TooLong, NoAnswer, ShortTable}
 

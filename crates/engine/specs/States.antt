@@ -8,7 +8,7 @@ use Rattle.engine.specs.declared.refusal.Refusal.TheVariants.{TooLarge}
 use Rattle.engine.specs.declared.state.State.{State}
 use Rattle.rows.specs.Rows.{Constraint, constraints}
 use Rattle.engine.specs.Verdicts.{Verdict}
-use Rattle.engine.specs.Interface.{Answer, Answer.none, Answer.preset, Answer.clash, View, Does, answered}
+use Rattle.engine.specs.Interface.{Answer, View, Does, answered}
 
 abbrev pub state_rows : State → List Constraint
 state_rows s = constraints (take s.len s.rows)

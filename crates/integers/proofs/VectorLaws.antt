@@ -1,6 +1,6 @@
 -- `dot` is linear in each of its lists, and how large it can be. Assumes nothing.
-use Rattle.std.proofs.Common.{◌≡◌, ℕ, zero, suc, ◌+◌, ◌*◌, ◌≤◌, List, [], ◌∷◌, ◌++◌, length, get_or, ℤ, pos, negsuc, ◌+ℤ◌, ◌*ℤ◌, nat_abs, sym, refl, ap, ◌∙◌, mul-le-mul_right, arith}
-use lib.IntN.{+ℤ_idl, +ℤ_idr, *ℤ-zero, zero-*ℤ, *ℤ_comm}
+use Rattle.std.proofs.Common.{◌≡◌, ℕ, zero, suc, ◌*◌, ◌≤◌, List, [], ◌∷◌, length, get_or, ℤ, pos, ◌+ℤ◌, ◌*ℤ◌, nat_abs, sym, refl, ap, ◌∙◌, arith}
+use lib.IntN.{+ℤ_idl, +ℤ_idr, *ℤ-zero, zero-*ℤ}
 use Rattle.std.specs.List.{AllByRecursion as All}
 use Rattle.integers.specs.Vectors.{dot, add, scale}
 use Rattle.integers.proofs.Laws.{*ℤ-+ℤ, +ℤ-*ℤ, *ℤ-assoc, *ℤ-left-comm}

@@ -1,5 +1,5 @@
 -- How a rule's numbers reach the plan, and which complaint stands. Assumes nothing.
-use Rattle.std.proofs.Common.{◌≡◌, ℕ, Bool, true, false, cond, not, eqb, List, take, ℤ, Some, None, Ok, Err, Option, Result, sym, refl, ap, ◌∙◌, subst}
+use Rattle.std.proofs.Common.{◌≡◌, ℕ, Bool, true, cond, not, eqb, List, take, ℤ, Some, None, Ok, Err, Option, Result, sym, ap, ◌∙◌, subst}
 use Rattle.std.proofs.lemmas.Bool.{eq-eqb, ne_eqb}
 use Rattle.rows.specs.Limits.{faders, near, narrowed}
 use Rattle.engine.specs.Interface.{Does, first_refusal, refused_if, unused_refusal}
@@ -11,7 +11,6 @@ use Rattle.plans.specs.Plans.{PlanView}
 use Rattle.plans.specs.Edits.{Added, add_refusal, after_add}
 use Rattle.plantext.specs.declared.statement.Numbers.{Numbers}
 use Rattle.plantext.specs.declared.statement.Comparison.{Comparison}
-use Rattle.plancheck.specs.declared.complaint.Complaint.{Complaint}
 use Rattle.plancheck.specs.declared.complaint.Complaint.TheVariants.{Refused, Coefficients}
 use Rattle.plancheck.specs.Numbers.{first_beyond}
 use Rattle.plancheck.specs.Edits.{kind_number, numbers_refusal, refused_by, rule_complaint}

@@ -1,5 +1,5 @@
 -- Which complaint stands once a desk is open and the width is right. Assumes nothing.
-use Rattle.std.proofs.Common.{◌≡◌, ℕ, Bool, cond, eqb, length, take, ℤ, Some, Option, sym, ap, ◌∙◌}
+use Rattle.std.proofs.Common.{◌≡◌, ℕ, Bool, cond, eqb, length, take, ℤ, Some, Option, ap, ◌∙◌}
 use Rattle.std.proofs.lemmas.Bool.{eq-eqb, ne_eqb}
 use Rattle.rows.specs.Limits.{faders}
 use Rattle.engine.specs.declared.refusal.Refusal.TheVariants.{NoPlan}

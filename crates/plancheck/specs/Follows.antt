@@ -1,5 +1,5 @@
 -- What a line comes to. Assumes nothing.
-use Rattle.std.specs.Prelude.{◌≡◌, ℕ, List, ℤ, pos, Ok, Err, Result}
+use Rattle.std.specs.Prelude.{◌≡◌, ℤ, pos, Ok, Err, Result}
 use Rattle.plans.specs.Plans.{PlanView}
 use Rattle.plans.specs.Edits.{after_open}
 use Rattle.plantext.specs.declared.statement.Comparison.{Comparison}

@@ -1,7 +1,7 @@
 -- The sounding rows of an open plan are rows that an engine takes. Assumes nothing.
-use Rattle.std.proofs.Common.{◌≡◌, ℕ, suc, ◌<◌, ◌≤◌, Bool, true, false, cond, List, [], ◌∷◌, length, take, arith}
+use Rattle.std.proofs.Common.{ℕ, suc, ◌<◌, ◌≤◌, Bool, true, false, cond, List, [], ◌∷◌, length, take, arith}
 use Rattle.std.specs.List.{AllByRecursion as All}
-use Rattle.rows.specs.Rows.{Constraint, constraint}
+use Rattle.rows.specs.Rows.{constraint}
 use Rattle.engine.specs.Verdicts.{ValidRow, Valid}
 use Rattle.plans.specs.declared.rule.Rule.{Rule}
 use Rattle.plans.specs.declared.plan.Plan.{Plan}

@@ -1,15 +1,13 @@
 -- Small plans are never too large for the box: the replies of a run, one by one. Assumes nothing.
-use Rattle.std.proofs.Common.{◌≡◌, ℕ, zero, suc, ◌+◌, ◌<◌, ◌≤◌, Bool, true, false, eqb, List, [], ◌∷◌, ◌++◌, length, get_or, Some, None, Ok, Err, Option, Result, sym, refl, ap, ◌∙◌, subst, arith}
-use Rattle.std.proofs.lemmas.List.{append_assoc, append-nil, map-append}
+use Rattle.std.proofs.Common.{◌≡◌, ℕ, ◌<◌, Bool, true, false, eqb, List, [], ◌∷◌, ◌++◌, length, get_or, None, Ok, Err, Option, Result, sym, refl, ap, ◌∙◌, subst, arith}
+use Rattle.std.proofs.lemmas.List.{append_assoc, map-append}
 use Rattle.std.proofs.lemmas.Bool.{eqb-false}
-use Rattle.std.specs.List.{AllByRecursion as All}
 use Rattle.rows.specs.Rows.{Constraint}
 use Rattle.engine.specs.declared.fault.Fault.{Fault}
 use Rattle.engine.specs.declared.refusal.Refusal.{Refusal}
-use Rattle.engine.specs.declared.refusal.Refusal.TheVariants.{NoPlan, TooLarge}
-use Rattle.engine.specs.declared.refusal.Refusal.TheVariants.{Feasible as HasPreset}
+use Rattle.engine.specs.declared.refusal.Refusal.TheVariants.{NoPlan}
 use Rattle.engine.specs.Refusals.{number}
-use Rattle.engine.specs.Verdicts.{Verdict, Verdict.preset, Verdict.clash, Verdict.fault, ValidRow, Valid}
+use Rattle.engine.specs.Verdicts.{Verdict, Valid}
 use Rattle.engine.specs.Exactness.{Taken}
 use Rattle.engine.specs.Interface.{first_refusal, refused_if}
 use Rattle.plans.specs.Plans.{PlanView, no_plan}
@@ -17,11 +15,11 @@ use Rattle.plans.specs.Edits.{closed_refusal}
 use Rattle.plans.specs.Sounding.{sounding_rows}
 use Rattle.console.specs.declared.command.Command.{Command}
 use Rattle.console.specs.declared.command.Command.TheVariants.{Ask, Blame}
-use Rattle.console.specs.Replies.{Reply, Reply.done, Reply.preset, Reply.clash, Reply.blamed, Reply.refused}
+use Rattle.console.specs.Replies.{Reply}
 use Rattle.console.specs.Runs.{next, plan_after}
 use Rattle.console.specs.Walks.{numbered, rows_of, tried, walked}
 use Rattle.console.specs.Law.{set_down, IsTooLarge, PlansValid}
-use Rattle.console.specs.Exact.{walk_reply, blame_reply, refused_or, reply_of, replies}
+use Rattle.console.specs.Exact.{blame_reply, refused_or, reply_of, replies}
 use Rattle.console.proofs.Feeding.{above_zero}
 use Rattle.console.proofs.Numbering.{rows_numbered}
 use Rattle.console.proofs.Walking.{valid_without, all_without, length_without}

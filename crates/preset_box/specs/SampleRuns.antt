@@ -3,8 +3,8 @@ use Rattle.std.specs.Prelude.{◌≡◌, ℕ, List, [], ◌∷◌, ℤ, pos, neg
 use Rattle.std.specs.List.{AllByRecursion}
 use Rattle.plans.specs.Plans.{no_plan}
 use Rattle.console.specs.declared.command.Command.{Command}
-use Rattle.console.specs.declared.command.Command.TheVariants.{Open, Add, Lift, Mute, Sound, Ask, Blame}
-use Rattle.console.specs.Replies.{Reply, Reply.done, Reply.preset, Reply.clash, Reply.blamed, Reply.refused}
+use Rattle.console.specs.declared.command.Command.TheVariants.{Open, Add, Ask, Blame}
+use Rattle.console.specs.Replies.{Reply}
 use Rattle.console.specs.Exact.{replies}
 use Rattle.sold_engine.specs.Sold.{sold_verdict}
 

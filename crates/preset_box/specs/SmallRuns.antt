@@ -4,7 +4,7 @@ use Rattle.plans.specs.Plans.{no_plan}
 use Rattle.plans.specs.Sounding.{sounding_rows}
 use Rattle.console.specs.declared.command.Command.{Command}
 use Rattle.console.specs.declared.command.Command.TheVariants.{Ask, Blame}
-use Rattle.console.specs.Replies.{Reply, Reply.done}
+use Rattle.console.specs.Replies.{Reply}
 use Rattle.console.specs.Runs.{plan_after}
 use Rattle.console.specs.Law.{IsTooLarge}
 use Rattle.sold_engine.specs.SmallPlans.{Small}

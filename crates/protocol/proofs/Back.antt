@@ -1,15 +1,15 @@
 -- Commands are what their own bytes say. Assumes nothing.
-use Rattle.std.proofs.Common.{◌≡◌, ℕ, zero, suc, ◌+◌, ◌-◌, ◌*◌, ◌/◌, ◌%◌, ◌<◌, ◌≤◌, List, [], ◌∷◌, ◌++◌, length, drop, ℤ, pos, negsuc, None, Ok, sym, refl, ap, ◌∙◌, arith, length-append}
+use Rattle.std.proofs.Common.{◌≡◌, ℕ, suc, ◌+◌, ◌-◌, ◌*◌, ◌/◌, ◌%◌, ◌<◌, ◌≤◌, List, [], ◌∷◌, ◌++◌, length, drop, ℤ, pos, negsuc, None, Ok, sym, refl, ap, ◌∙◌, arith, length-append}
 use Rattle.std.proofs.ByRecursion.{All-append}
 use Rattle.std.proofs.lemmas.Int.{ints}
 use Rattle.std.proofs.lemmas.Bool.{lt-ltb, le-ltb}
 use Rattle.std.specs.List.{flat_map, AllByRecursion as All}
 use Rattle.console.specs.declared.command.Command.{Command}
 use Rattle.console.specs.declared.command.Command.TheVariants.{Open, Add, Lift, Mute, Sound, Ask, Blame}
-use Rattle.protocol.specs.Bytes.{most_bytes, from_bits, two_bytes, four_bytes, taken, first, reading, parsed}
-use Rattle.protocol.specs.Writes.{to_bits, high_low, coefficient_bytes, side_bytes, bytes_of, Byte, Below, InRange, ReadBack, ReadsBack}
+use Rattle.protocol.specs.Bytes.{from_bits, two_bytes, four_bytes, taken, first, reading}
+use Rattle.protocol.specs.Writes.{to_bits, coefficient_bytes, side_bytes, bytes_of, Byte, Below, InRange, ReadsBack}
 use Rattle.protocol.proofs.FirstCommand.{first_told}
-use Rattle.protocol.proofs.Onward.{after, reading_next, reading_room, parsed_short}
+use Rattle.protocol.proofs.Onward.{after, reading_next, parsed_short}
 
 -- ---- numbers
 bits_back : (h : ℕ) (z : ℤ) → Below h z → from_bits h (to_bits h z) ≡ z

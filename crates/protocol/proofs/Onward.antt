@@ -1,6 +1,6 @@
 -- Commands that are read one by one, and the reading of all bytes. Assumes nothing.
 use Rattle.std.proofs.Common.{◌≡◌, ℕ, zero, suc, ◌+◌, ◌-◌, ◌<◌, ◌≤◌, min, Bool, true, false, cond, eqb, ltb, List, [], ◌∷◌, ◌++◌, length, get_or, take, drop, set, IfOk, Some, None, Ok, Err, Option, Result, sym, refl, ap, ◌∙◌, inl, inr, append_assoc, append-nil, arith, length-drop}
-use Rattle.std.proofs.lemmas.List.{take_more_set, nil_from_length, drop-set-lt, drop-drop}
+use Rattle.std.proofs.lemmas.List.{take_more_set, drop-set-lt, drop-drop}
 use Rattle.std.proofs.lemmas.Bool.{lt-ltb, le-ltb, cases_lt}
 use Rattle.console.specs.declared.command.Command.{Command}
 use Rattle.engine.specs.declared.refusal.Refusal.{Refusal}

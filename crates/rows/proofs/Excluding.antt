@@ -1,8 +1,7 @@
 -- A clash excludes all levels. Assumes nothing.
-use Rattle.std.proofs.Common.{◌≡◌, ℕ, zero, suc, ◌<◌, ◌⊎◌, List, [], ◌∷◌, get_or, ℤ, pos, negsuc, ◌+ℤ◌, ◌*ℤ◌, ◌≤ℤ◌, ◌<ℤ◌, sym, refl, ap, ◌∙◌, subst, inl, inr, arith}
+use Rattle.std.proofs.Common.{◌≡◌, ℕ, ◌⊎◌, List, [], ◌∷◌, get_or, ℤ, pos, ◌+ℤ◌, ◌*ℤ◌, ◌≤ℤ◌, ◌<ℤ◌, refl, ap, ◌∙◌, subst, inl, inr, arith}
 use lib.IntN.{*ℤ-zero, zero-*ℤ, *ℤ_comm}
 use lib.Signed.{≤ℤ_refl}
-use Rattle.std.specs.List.{AllByRecursion as All}
 use Rattle.integers.specs.Vectors.{dot, add, scale}
 use Rattle.integers.proofs.Laws.{+ℤ-*ℤ, *ℤ-assoc}
 use Rattle.integers.proofs.Order.{*ℤ-mono, *ℤ-mono-<}
@@ -10,8 +9,8 @@ use Rattle.integers.proofs.Linear.{linear}
 use Rattle.integers.proofs.VectorLaws.{dot_add, dot_scale, add_at, scale_at, dot_none}
 use Rattle.rows.specs.declared.kind.Kind.{Kind}
 use Rattle.rows.specs.declared.kind.Kind.TheVariants.{AtMost, Below, Equal}
-use Rattle.rows.specs.Rows.{Constraint, Compares, Meets, MeetsAll}
-use Rattle.rows.specs.Clashes.{Weighs, Weighed, column, total, Strictly, Clash, Excludes}
+use Rattle.rows.specs.Rows.{Constraint, Compares, MeetsAll}
+use Rattle.rows.specs.Clashes.{Weighs, Weighed, column, total, Strictly, Excludes}
 
 -- the weighted sum of the rows' coefficients
 abbrev mix : List ℤ → List Constraint → List ℤ

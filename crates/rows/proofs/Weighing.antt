@@ -1,10 +1,9 @@
 -- Weights beside the rows of a list: what a loop over the rows shows of them, place by place. Assumes nothing.
-use Rattle.std.proofs.Common.{◌≡◌, ℕ, zero, suc, ◌+◌, ◌<◌, ◌≤◌, ◌⊎◌, List, [], ◌∷◌, map, length, get_or, take, drop, ℤ, pos, ◌+ℤ◌, ◌*ℤ◌, ◌≤ℤ◌, ◌<ℤ◌, sym, refl, ap, ◌∙◌, subst, inl, inr, add-one, arith}
+use Rattle.std.proofs.Common.{◌≡◌, ℕ, zero, suc, ◌+◌, ◌<◌, ◌≤◌, List, [], ◌∷◌, map, length, get_or, take, drop, ℤ, pos, ◌+ℤ◌, ◌*ℤ◌, ◌<ℤ◌, sym, refl, ap, ◌∙◌, subst, inl, inr, add-one, arith}
 use lib.IntN.{*ℤ-zero}
-use Rattle.std.proofs.lemmas.List.{drop_more, drop_all, get_or_past, length-map}
+use Rattle.std.proofs.lemmas.List.{get_or_past, length-map}
 use Rattle.integers.specs.Vectors.{dot}
-use Rattle.rows.specs.declared.kind.Kind.{Kind}
-use Rattle.rows.specs.declared.kind.Kind.TheVariants.{AtMost, Below, Equal}
+use Rattle.rows.specs.declared.kind.Kind.TheVariants.{Below}
 use Rattle.rows.specs.declared.row.Row.{Row}
 use Rattle.rows.specs.Limits.{faders}
 use Rattle.rows.specs.Rows.{Constraint, constraint, constraints}

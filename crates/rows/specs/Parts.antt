@@ -1,5 +1,5 @@
 -- The numbers of rows that weights are multiplied with. Assumes nothing.
-use Rattle.std.specs.Prelude.{ℕ, List, map, ℤ, pos, slice_index_or}
+use Rattle.std.specs.Prelude.{List, map, ℤ, pos, slice_index_or}
 use Rattle.rows.specs.declared.clashes.Part.{Part}
 use Rattle.rows.specs.declared.clashes.Part.TheVariants.{Coefficient, Side}
 use Rattle.rows.specs.Rows.{Constraint}

@@ -8,7 +8,7 @@ use Rattle.std.proofs.lemmas.Bool.{and_parts, cases_lt}
 use Rattle.engine.specs.declared.fault.Fault.{Fault}
 use Rattle.rows.specs.Limits.{faders, most_rows}
 use Rattle.rows.specs.Rows.{Constraint}
-use Rattle.engine.specs.Verdicts.{Verdict, Verdict.preset, Verdict.clash, Verdict.fault, number_beyond, form_not_taken}
+use Rattle.engine.specs.Verdicts.{Verdict, number_beyond, form_not_taken}
 use Rattle.rows.proofs.Alls.{none_some}
 use Rattle.elimination.specs.Table.{Line, stands, eliminated, all_eliminated}
 use Rattle.elimination.specs.Levels.{Levels, first_best, set_fader}

@@ -10,7 +10,7 @@ use Rattle.rows.specs.declared.kind.Kind.TheVariants.{AtMost, Below, Equal}
 use Rattle.rows.specs.Limits.{largest}
 use Rattle.rows.specs.Carrying.{Sum}
 use Rattle.engine.specs.Exactness.{Taken}
-use Rattle.engine.specs.Verdicts.{Verdict, Verdict.preset, Verdict.clash, Verdict.fault, number_beyond}
+use Rattle.engine.specs.Verdicts.{Verdict, number_beyond}
 use Rattle.rows.proofs.Alls.{mapped, none_some}
 use Rattle.elimination.specs.Working.{first_equation, elimination_verdict}
 use Rattle.elimination.specs.Working.{is_equation as is-equation-below}

@@ -12,7 +12,7 @@ use Rattle.integers.proofs.Ring.{var, ◌⊗◌, vanish}
 use Rattle.integers.proofs.VectorLaws.{scale_at}
 use Rattle.rows.specs.Limits.{largest}
 use Rattle.elimination.specs.Table.{Line, coefficient, size, is_positive, is_negative}
-use Rattle.elimination.specs.Levels.{Levels, Limit, is_for, above, below, remaining, lowest, upper_limit, lower_limit, also, limits, better_upper, better_lower, first_best, value, with_level, placed, chosen, set_fader}
+use Rattle.elimination.specs.Levels.{Levels, Limit, is_for, above, below, remaining, lowest, upper_limit, lower_limit, also, limits, better_upper, better_lower, first_best, with_level, placed, chosen, set_fader}
 use Rattle.elimination.specs.Alls.{both, best_in}
 use Rattle.elimination.specs.Blending.{positive_is, negative_is}
 use Rattle.sold_engine.proofs.Bounded.{Bound, most}

@@ -11,7 +11,7 @@ use Rattle.engine.specs.Verdicts.{ValidRow, number_beyond}
 use Rattle.rows.proofs.Alls.{none_some}
 use Rattle.elimination.specs.Working.{elimination_verdict}
 use Rattle.elimination.specs.Alls.{both}
-use Rattle.substitution.specs.Reduction.{Kept, Pivot, Reduced, Reduced.clashing, Reduced.faulty, Reduced.left, is_equation, first_fader, cancel_all, contradiction, kept_rows, reduced}
+use Rattle.substitution.specs.Reduction.{Kept, Pivot, Reduced, Reduced.left, is_equation, first_fader, cancel_all, contradiction, kept_rows, reduced}
 use Rattle.substitution.specs.Working.{decided}
 use Rattle.substitution.specs.Soundness.{has_fader, kept_length}
 use Rattle.sold_engine.specs.SmallPlans.{SmallRow, SmallPlansTaken, small_coefficient}

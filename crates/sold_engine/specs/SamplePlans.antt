@@ -4,7 +4,7 @@ use Rattle.std.specs.List.{AllByRecursion}
 use Rattle.rows.specs.declared.kind.Kind.{Kind}
 use Rattle.rows.specs.declared.kind.Kind.TheVariants.{AtMost, Below, Equal}
 use Rattle.rows.specs.Rows.{Constraint}
-use Rattle.engine.specs.Verdicts.{Verdict, Verdict.preset, Verdict.clash}
+use Rattle.engine.specs.Verdicts.{Verdict}
 use Rattle.sold_engine.specs.Sold.{sold_verdict}
 
 pub record Sample : Type 0 where

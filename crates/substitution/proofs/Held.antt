@@ -1,9 +1,8 @@
 -- The rows and pivots of the program, seen as those of the working. Assumes nothing.
-use Rattle.std.proofs.Common.{◌≡◌, ℕ, ◌+◌, ◌-◌, ◌<◌, ◌≤◌, List, [], ◌∷◌, ◌++◌, length, get_or, take, drop, set, sym, refl, ap, ◌∙◌, arith}
+use Rattle.std.proofs.Common.{◌≡◌, ℕ, ◌+◌, ◌-◌, ◌<◌, ◌≤◌, List, [], ◌∷◌, ◌++◌, length, get_or, take, drop, set, sym, ap, ◌∙◌, arith}
 use Rattle.std.proofs.lemmas.List.{length-map, length-take-le, get_or-map, get_or-take, map-append, take-map, drop-map, take-take, take_more_set}
 use Rattle.substitution.specs.declared.kept.Kept.{Kept as Held}
 use Rattle.substitution.specs.declared.kept.Pivot.{Pivot as HeldPivot}
-use Rattle.substitution.specs.Reduction.{Pivot}
 use Rattle.substitution.specs.Holding.{kept_of, kepts, pivot_of, latest_first}
 use Rattle.substitution.proofs.Latest.{latest_push}
 

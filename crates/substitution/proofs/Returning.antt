@@ -9,8 +9,8 @@ use Rattle.engine.specs.declared.refusal.Refusal.{Refusal}
 use Rattle.rows.specs.declared.row.Row.{Row}
 use Rattle.engine.specs.declared.state.State.{State}
 use Rattle.rows.specs.Rows.{Constraint, constraint, constraints}
-use Rattle.engine.specs.Verdicts.{Verdict, Verdict.preset, Verdict.clash, Verdict.fault, Valid}
-use Rattle.engine.specs.Interface.{Answer, Answer.preset, Answer.clash}
+use Rattle.engine.specs.Verdicts.{Verdict, Valid}
+use Rattle.engine.specs.Interface.{Answer}
 use Rattle.engine.specs.States.{state_rows, Says}
 use Rattle.engine.specs.Deciding.{Tells, Replies}
 use Rattle.engine.proofs.Loading.{valid_unrefused, used_valid}

@@ -5,7 +5,7 @@ use Rattle.std.specs.Int.{◌∣◌}
 use Rattle.std.proofs.Math.Nat.{div-mul_cancel}
 use Rattle.std.specs.List.{AllByRecursion}
 use Rattle.std.proofs.lemmas.Bool.{ltb-true, ltb-false, lt-ltb}
-use Rattle.integers.specs.Vectors.{add, scale}
+use Rattle.integers.specs.Vectors.{scale}
 use Rattle.integers.specs.Divisors.{gcd_of}
 use Rattle.integers.proofs.DivisorLaws.{gcd_of_is_gcd}
 use Rattle.integers.proofs.Inequality.{given, follows}

@@ -1,10 +1,10 @@
 -- The pivot's fader solved from the other levels: the new levels meet the pivot and every row before it was substituted. Assumes nothing.
-use Rattle.std.specs.Prelude.{◌≡◌, ℕ, zero, suc, ◌*◌, ◌<◌, Bool, cond, List, [], ◌∷◌, length, set, ℤ, pos, negsuc, ◌+ℤ◌, ◌*ℤ◌, neg_ℤ, Some, ◌≢◌, int_lt, slice_index_or, slice_set, unsigned_abs, refl}
+use Rattle.std.specs.Prelude.{◌≡◌, ℕ, zero, suc, ◌*◌, ◌<◌, Bool, cond, List, [], ◌∷◌, length, ℤ, pos, negsuc, ◌+ℤ◌, ◌*ℤ◌, neg_ℤ, Some, ◌≢◌, int_lt, slice_index_or, slice_set, unsigned_abs, refl}
 use Rattle.std.proofs.Common.{sym, ap, subst, subst₂, ◌∙◌, inl, inr, arith}
 use Rattle.std.proofs.Math.IntN.{*ℤ-zero, zero-*ℤ, +ℤ_idr}
 use Rattle.std.proofs.lemmas.List.{length-set, get_or-set_other}
 use Rattle.std.proofs.lemmas.Bool.{lt-ltb}
-use Rattle.integers.specs.Vectors.{dot, add, scale}
+use Rattle.integers.specs.Vectors.{dot, scale}
 use Rattle.integers.proofs.Laws.{*ℤ-+ℤ, *ℤ-left-comm}
 use Rattle.integers.proofs.Linear.{linear}
 use Rattle.integers.proofs.Ring.{var, ◌⊕◌, ◌⊖◌, ◌⊗◌, neg, vanish}

@@ -1,11 +1,10 @@
 -- The answer of the engine below, brought back to the list. Assumes nothing.
-use Rattle.std.specs.Prelude.{◌≡◌, ℕ, zero, suc, ◌+◌, ◌*◌, ◌/◌, min, Bool, true, false, cond, ◌&&◌, List, [], ◌∷◌, map, length, set, ℤ, pos, ◌+ℤ◌, ◌-ℤ◌, ◌*ℤ◌, neg_ℤ, Some, None, Ok, Err, Option, Result, int_lt, slice_index_or, slice_set, unsigned_abs}
+use Rattle.std.specs.Prelude.{ℕ, zero, suc, ◌+◌, ◌*◌, min, cond, ◌&&◌, List, [], ◌∷◌, map, set, ℤ, pos, ◌+ℤ◌, ◌-ℤ◌, ◌*ℤ◌, neg_ℤ, Some, None, Ok, Err, Option, Result, int_lt, slice_index_or, slice_set, unsigned_abs}
 use Rattle.integers.specs.Vectors.{dot, scale}
 use Rattle.engine.specs.declared.fault.Fault.{Fault}
-use Rattle.rows.specs.Limits.{near, all_near}
+use Rattle.rows.specs.Limits.{near}
 use Rattle.rows.specs.Presets.{least_terms}
-use Rattle.rows.specs.Rows.{Constraint}
-use Rattle.engine.specs.Verdicts.{Verdict, Verdict.preset, Verdict.clash, Verdict.fault, number_beyond, weight_beyond}
+use Rattle.engine.specs.Verdicts.{Verdict, number_beyond, weight_beyond}
 use Rattle.rows.specs.Carrying.{Sum}
 use Rattle.substitution.specs.Reduction.{Kept, Pivot, at}
 

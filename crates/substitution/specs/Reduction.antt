@@ -1,5 +1,5 @@
 -- Equations substituted away, one after another. Assumes nothing.
-use Rattle.std.specs.Prelude.{◌≡◌, ℕ, zero, suc, ◌+◌, ◌/◌, Bool, true, false, cond, List, [], ◌∷◌, ◌++◌, length, ℤ, pos, negsuc, ◌*ℤ◌, neg_ℤ, Some, None, Ok, Err, Option, Result, int_lt, nat_lt, slice_index_or, unsigned_abs}
+use Rattle.std.specs.Prelude.{ℕ, zero, suc, ◌+◌, ◌/◌, Bool, true, false, cond, List, [], ◌∷◌, ◌++◌, ℤ, pos, negsuc, neg_ℤ, Some, None, Option, int_lt, nat_lt, slice_index_or, unsigned_abs}
 use Rattle.integers.specs.Vectors.{scale}
 use Rattle.integers.specs.Divisors.{gcd_of}
 use Rattle.rows.specs.declared.kind.Kind.{Kind}

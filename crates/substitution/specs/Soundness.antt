@@ -14,7 +14,7 @@ use Rattle.rows.specs.declared.kind.Kind.TheVariants.{AtMost, Below, Equal}
 use Rattle.rows.specs.Limits.{most_rows}
 use Rattle.rows.specs.Rows.{Constraint, Compares, Meets, MeetsAll}
 use Rattle.rows.specs.Presets.{WellFormed}
-use Rattle.engine.specs.Verdicts.{Verdict, Verdict.preset, Verdict.clash, Verdict.fault, ValidRow, Valid, Right, number_beyond}
+use Rattle.engine.specs.Verdicts.{Verdict, ValidRow, Valid, Right, number_beyond}
 use Rattle.rows.proofs.Alls.{unmap, mapped, unjoin, none_some}
 use Rattle.substitution.specs.Reduction.{Kept, Pivot, Reduced, Reduced.clashing, Reduced.faulty, Reduced.left, is_equation, first_fader, at, cancel_all, contradiction, kept_rows, reduced}
 use Rattle.substitution.specs.Lifting.{completed, all_completed, lifted_weights, weights_verdict, lifted}

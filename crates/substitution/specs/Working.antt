@@ -1,7 +1,7 @@
 -- The working of substitution, over the verdict of any engine below. Assumes nothing.
 use Rattle.std.specs.Prelude.{ℕ, List, [], map, length, take}
 use Rattle.rows.specs.Rows.{Constraint}
-use Rattle.engine.specs.Verdicts.{Verdict, Verdict.preset, Verdict.clash, Verdict.fault}
+use Rattle.engine.specs.Verdicts.{Verdict}
 use Rattle.substitution.specs.Reduction.{Kept, Reduced, Reduced.clashing, Reduced.faulty, Reduced.left, kept_rows, reduced}
 use Rattle.substitution.specs.Lifting.{lifted}
 

@@ -1,4 +1,3 @@
-use Rattle.std.proofs.Common.{rules}
 use Rattle.feasibility.proofs.feasibility_is_decidable.Goals as goal
 use Rattle.feasibility.proofs.Decision.{decide}
 

@@ -1,10 +1,9 @@
 -- What `ask` leaves to show. Assumes nothing.
-use Rattle.std.proofs.Common.{◌≡◌, List, length, replicate, ℤ, pos, Ok, ap, subst, arith}
+use Rattle.std.proofs.Common.{List, length, replicate, ℤ, pos, Ok, ap, subst}
 use Rattle.rows.specs.Limits.{faders}
 use Rattle.engine.specs.declared.answer.Answer.{Answer}
 use Rattle.plans.specs.Plans.{plan_view}
 use Rattle.plans.specs.Sounding.{sounding_rows}
-use Rattle.console.specs.declared.sheet.Sheet.{Sheet}
 use Rattle.console.specs.Asking.{Told}
 use Rattle.plans.proofs.Takeable.{sounding_valid}
 use Rattle.console.proofs.Feeding.{above_zero}

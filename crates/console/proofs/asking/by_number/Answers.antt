@@ -1,5 +1,5 @@
 -- What `by_number` leaves to show. Assumes nothing.
-use Rattle.std.proofs.Common.{◌≡◌, ◌<◌, true, false, length, get_or, pos, sym, ap, ◌∙◌, subst, arith, w32}
+use Rattle.std.proofs.Common.{◌<◌, true, false, length, get_or, pos, ◌∙◌, arith, w32}
 use Rattle.std.proofs.lemmas.Int.{to_z-of_z}
 use Rattle.rows.proofs.Fits.{fits_32}
 use Rattle.std.proofs.lemmas.List.{length-set, get_or-set_other}

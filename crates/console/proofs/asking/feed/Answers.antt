@@ -1,12 +1,10 @@
 -- What `feed` leaves to show. Assumes nothing.
-use Rattle.std.proofs.Common.{◌≡◌, ℕ, ◌+◌, true, false, length, take, sym, ap, ◌∙◌, subst, arith}
+use Rattle.std.proofs.Common.{ℕ, ◌+◌, true, false, length, take, sym, ap, ◌∙◌, arith}
 use Rattle.std.proofs.lemmas.List.{take_all, length-append}
-use Rattle.rows.specs.Rows.{Constraint, constraint}
 use Rattle.engine.specs.Deciding.{loaded}
-use Rattle.plans.specs.declared.rule.Rule.{Rule}
 use Rattle.plans.specs.Rules.{rule_views}
 use Rattle.plans.specs.Sounding.{sounding_rows}
-use Rattle.console.proofs.Feeding.{given_next, given_more, passed_on, read_sounds, given_row}
+use Rattle.console.proofs.Feeding.{given_more, passed_on, read_sounds, given_row}
 use Rattle.console.proofs.asking.feed.Goals as goal
 use Rattle.console.proofs.asking.feed.Goals.{then-rule+in_ok-take, else-rule}
 

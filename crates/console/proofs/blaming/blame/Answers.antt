@@ -4,7 +4,7 @@ use Rattle.std.proofs.lemmas.List.{length-take-le, take-append-drop}
 use Rattle.plans.specs.declared.rule.Rule.{Rule}
 use Rattle.plans.specs.declared.plan.Plan.{Plan}
 use Rattle.plans.specs.Rules.{UsedBelow, rule_views}
-use Rattle.plans.specs.Plans.{PlanView, plan_view}
+use Rattle.plans.specs.Plans.{plan_view}
 use Rattle.plans.proofs.Takeable.{sounding_valid}
 use Rattle.console.proofs.Feeding.{above_zero}
 use Rattle.console.proofs.Trying.{room_of, blamed_walk, blamed_feasible}

@@ -1,5 +1,5 @@
 -- What `marks_of` leaves to show. Assumes nothing.
-use Rattle.std.proofs.Common.{◌≡◌, ◌<◌, true, false, length, sym, ap, ◌∙◌, subst, arith}
+use Rattle.std.proofs.Common.{◌<◌, true, false, length, ◌∙◌, arith}
 use Rattle.std.proofs.lemmas.List.{length-set, get_or-set_other}
 use Rattle.console.proofs.Feeding.{read_sounds}
 use Rattle.console.proofs.Marking.{mark_sounding, mark_muted, marks_whole}

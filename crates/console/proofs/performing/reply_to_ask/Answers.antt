@@ -1,12 +1,12 @@
 -- What `reply_to_ask` leaves to show. Assumes nothing.
-use Rattle.std.proofs.Common.{◌≡◌, ℕ, Bool, cond, length, take, Ok, Err, Option, sym, ap, ◌∙◌, subst}
+use Rattle.std.proofs.Common.{ℕ, Bool, cond, length, take, Ok, Err, sym, ap, ◌∙◌, subst}
 use Rattle.std.proofs.lemmas.Bool.{eq-eqb, ne_eqb}
 use Rattle.engine.specs.Interface.{first_refusal}
 use Rattle.plans.specs.Plans.{plan_view}
 use Rattle.plans.specs.Edits.{closed_refusal}
 use Rattle.plans.proofs.PlanRules.{length_rules}
 use Rattle.console.specs.Asking.{table_refusal}
-use Rattle.console.specs.Replies.{Reply, Reply.clash, Reply.preset}
+use Rattle.console.specs.Replies.{Reply}
 use Rattle.console.specs.Law.{unless, AskLaw}
 use Rattle.plans.proofs.Takeable.{sounding_valid}
 use Rattle.console.proofs.Performed.{ask_replied}

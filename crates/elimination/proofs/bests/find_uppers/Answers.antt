@@ -1,6 +1,5 @@
-use Rattle.std.proofs.Common.{◌≡◌, ℕ, ◌+◌, ◌<◌, ◌≤◌, Bool, true, false, ◌&&◌, List, map, length, take, drop, set, Option, sym, ap, ◌∙◌, arith}
+use Rattle.std.proofs.Common.{ℕ, ◌+◌, Bool, ◌&&◌, List, map, take, drop, Option, sym, ◌∙◌, arith}
 use Rattle.std.proofs.lemmas.Bool.{and_parts}
-use Rattle.elimination.specs.declared.tighter.Upper.{Upper}
 use Rattle.elimination.specs.Table.{Line, coefficient, is_positive}
 use Rattle.elimination.specs.Lines.{line}
 use Rattle.elimination.specs.Levels.{Limit, is_for, upper_limit}

@@ -1,4 +1,4 @@
-use Rattle.std.proofs.Common.{◌≡◌, List, length, take, sym, ap, ◌∙◌, arith}
+use Rattle.std.proofs.Common.{List, take, sym, ap, ◌∙◌, arith}
 use Rattle.engine.specs.States.{state_rows}
 use Rattle.engine.proofs.StateRows.{length_state_rows}
 use Rattle.elimination.specs.Table.{Line, all_eliminated}

@@ -1,4 +1,4 @@
-use Rattle.std.proofs.Common.{◌≡◌, true, false, sym, ap, ◌∙◌, arith}
+use Rattle.std.proofs.Common.{true, false, sym, ap, ◌∙◌}
 use Rattle.rows.specs.declared.row.Row.{Row}
 use Rattle.elimination.specs.Working.{is_equation}
 use Rattle.elimination.proofs.Filled.{equation_at, no_equation}

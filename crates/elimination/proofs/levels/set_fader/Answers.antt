@@ -1,9 +1,9 @@
-use Rattle.std.proofs.Common.{◌≡◌, ℕ, List, Some, None, Option, sym, refl, ap, ◌∙◌}
+use Rattle.std.proofs.Common.{◌≡◌, ℕ, List, Some, None, Option, refl, ap, ◌∙◌}
 use Rattle.std.specs.Option.{option_map}
 use Rattle.rows.specs.declared.preset.Preset.{Preset}
 use Rattle.elimination.specs.declared.cell.Cell.{Cell}
 use Rattle.elimination.specs.Lines.{lines}
-use Rattle.elimination.specs.Levels.{Limit, Levels, better_upper, better_lower, first_best, value, placed, chosen, set_fader}
+use Rattle.elimination.specs.Levels.{Limit, better_upper, better_lower, first_best, value, placed, chosen, set_fader}
 use Rattle.elimination.specs.Limiting.{limit_of, levels_of}
 use Rattle.elimination.specs.Tightest.{upper_limits, lower_limits, best_upper, best_lower}
 use Rattle.elimination.proofs.levels.set_fader.Goals as goal

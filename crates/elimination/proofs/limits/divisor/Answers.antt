@@ -1,8 +1,6 @@
-use Rattle.std.proofs.Common.{◌≡◌, ℕ, ◌*◌, ◌<◌, get_or, pos, nat_abs, sym, ap, ◌∙◌, subst, arith, w32, SFits, rules}
+use Rattle.std.proofs.Common.{ℕ, ◌*◌, ◌<◌, get_or, pos, sym, ap, subst, arith, w32, SFits}
 use Rattle.std.proofs.lemmas.Int.{to_z-of_z}
 use Rattle.rows.proofs.Fits.{fits_32}
-use Rattle.elimination.specs.Lines.{line}
-use Rattle.elimination.specs.Table.{size}
 use Rattle.elimination.proofs.Remains.{divisor_near, divisor_above}
 use Rattle.elimination.proofs.limits.divisor.Goals as goal
 

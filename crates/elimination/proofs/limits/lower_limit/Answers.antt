@@ -1,4 +1,4 @@
-use Rattle.std.proofs.Common.{◌≡◌, ℤ, pos, ◌-ℤ◌, neg_ℤ, sym, ◌∙◌, subst, w64, SFits, rules}
+use Rattle.std.proofs.Common.{◌≡◌, pos, ◌-ℤ◌, neg_ℤ, sym, ◌∙◌, subst, w64, SFits, rules}
 use lib.IntN.{+ℤ_idl}
 use Rattle.std.proofs.lemmas.Int.{to_z-of_z}
 use Rattle.elimination.specs.Lines.{line}

@@ -1,11 +1,11 @@
-use Rattle.std.proofs.Common.{◌≡◌, ℕ, ◌^◌, ◌<◌, ◌≤◌, Bool, true, false, cond, ◌&&◌, ℤ, pos, nat_abs, ◌<ℤ◌, Some, None, Option, sym, refl, ap, ◌∙◌, subst, arith, w32, w64, SFits, to_z, rules}
+use Rattle.std.proofs.Common.{◌≡◌, ℕ, ◌<◌, Bool, true, false, cond, ◌&&◌, ℤ, pos, nat_abs, ◌<ℤ◌, Some, None, sym, ap, ◌∙◌, subst, arith, w32, w64, SFits, to_z, rules}
 use Rattle.std.proofs.lemmas.Int.{ints, to_z-of_z, to_z_pos}
 use Rattle.std.proofs.lemmas.Bool.{and_left, and_right, and_from, cond-true, cond-false}
 use Rattle.integers.specs.Fractions.{lowest_numerator, lowest_denominator}
-use Rattle.rows.specs.Limits.{largest, Within, narrowed}
+use Rattle.rows.specs.Limits.{Within}
 use Rattle.rows.proofs.Blends.{some_narrowed, none_narrowed, near_within}
 use Rattle.elimination.specs.Table.{near}
-use Rattle.elimination.specs.Levels.{Limit, lowest}
+use Rattle.elimination.specs.Levels.{lowest}
 use Rattle.elimination.proofs.limits.lowest.Goals as goal
 use Rattle.elimination.proofs.limits.lowest.Goals.{In-Some, In-Some-narrow-2}
 

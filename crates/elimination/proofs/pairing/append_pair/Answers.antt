@@ -1,11 +1,9 @@
-use Rattle.std.proofs.Common.{◌≡◌, ℕ, ◌+◌, ◌<◌, true, false, List, [], ◌∷◌, length, set, Ok, Err, Result, sym, ap, ◌∙◌, subst, arith}
+use Rattle.std.proofs.Common.{◌+◌, true, false, List, set, Ok, Err, sym, ap, ◌∙◌, subst, arith}
 use Rattle.std.proofs.lemmas.Bool.{and_parts}
 use Rattle.engine.specs.declared.fault.Fault.{Fault}
-use Rattle.engine.specs.Verdicts.{number_beyond, table_full}
-use Rattle.elimination.specs.declared.cell.Cell.{Cell}
 use Rattle.elimination.specs.Table.{Line, sums, stands, coefficient, is_positive, is_negative}
-use Rattle.elimination.specs.Lines.{line, lines}
-use Rattle.elimination.specs.Appends.{Appends, pairs_at}
+use Rattle.elimination.specs.Lines.{line}
+use Rattle.elimination.specs.Appends.{Appends}
 use Rattle.elimination.proofs.Appending.{appends_none, appends_one, appends_full, appends_beyond, pairs_at_is}
 use Rattle.elimination.proofs.pairing.append_pair.Goals as goal
 

@@ -1,7 +1,6 @@
-use Rattle.std.proofs.Common.{◌≡◌, ℕ, ◌≤◌, length, Some, None, Ok, Err, Option, sym, refl, ap, ◌∙◌, subst, arith}
+use Rattle.std.proofs.Common.{◌≡◌, Some, Ok, Err, Option, sym, refl, ap, ◌∙◌, arith}
 use Rattle.engine.specs.declared.fault.Fault.{Fault}
 use Rattle.elimination.specs.Lines.{line}
-use Rattle.elimination.specs.Appends.{Appends}
 use Rattle.elimination.proofs.Appending.{appends_none}
 use Rattle.elimination.proofs.PairSteps.{inner_more, inner_ends, outer_row, outer_skips, outer_stops, outer_ends}
 use Rattle.rows.proofs.Alls.{none_some}

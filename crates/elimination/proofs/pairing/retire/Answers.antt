@@ -1,4 +1,4 @@
-use Rattle.std.proofs.Common.{◌≡◌, ℕ, List, map, length, take, drop, sym, ap, ◌∙◌, subst, arith}
+use Rattle.std.proofs.Common.{◌≡◌, ℕ, map, take, drop, subst, arith}
 use Rattle.elimination.specs.Table.{set_aside}
 use Rattle.elimination.specs.Lines.{lines}
 use Rattle.elimination.proofs.Retiring.{retired_more, left_more}

@@ -1,4 +1,4 @@
-use Rattle.std.proofs.Common.{◌≡◌, ℕ, ◌*◌, ◌<◌, ◌≤◌, List, length, get_or, set, ℤ, pos, ◌*ℤ◌, sym, ap, ◌∙◌, subst, mul-pos, arith, w32, w64, SFits, to_z, rules}
+use Rattle.std.proofs.Common.{◌≡◌, ◌*◌, List, set, ℤ, pos, ◌∙◌, mul-pos, arith, w32, w64, SFits, to_z, rules}
 use Rattle.std.proofs.lemmas.Int.{to_z-of_z, to_z_pos}
 use Rattle.rows.specs.Presets.{least_terms}
 use Rattle.rows.proofs.Fits.{fits_32}

@@ -1,4 +1,3 @@
-use Rattle.std.proofs.Common.{rules}
 use Rattle.elimination.proofs.rightness.verdict_is_right.Goals as goal
 use Rattle.elimination.specs.Soundness.{sound}
 

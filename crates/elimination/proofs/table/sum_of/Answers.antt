@@ -1,10 +1,10 @@
-use Rattle.std.proofs.Common.{◌≡◌, ℕ, ◌/◌, ◌<◌, Bool, true, false, get_or, ℤ, pos, nat_abs, Some, None, sym, ap, ◌∙◌, subst, arith, w32, SFits, to_z, of_z, rules}
+use Rattle.std.proofs.Common.{◌≡◌, ℕ, ◌/◌, get_or, ℤ, pos, nat_abs, None, sym, ◌∙◌, w32, SFits, to_z, of_z}
 use Rattle.std.proofs.lemmas.Int.{to_z-of_z}
 use Rattle.integers.specs.Divisors.{gcd_of}
 use Rattle.rows.specs.Limits.{Within}
-use Rattle.rows.specs.Carrying.{Sum, numbers_of, combination, fits as sum_fits}
+use Rattle.rows.specs.Carrying.{numbers_of, combination, fits as sum_fits}
 use Rattle.rows.proofs.Fits.{fits_32}
-use Rattle.elimination.specs.Table.{Line, coefficient, size, combined, fits}
+use Rattle.elimination.specs.Table.{combined, fits}
 use Rattle.elimination.specs.Lines.{line}
 use Rattle.elimination.specs.Blending.{positive_is}
 use Rattle.elimination.proofs.table.sum_of.Goals as goal

@@ -1,5 +1,5 @@
 -- What `check_preset` leaves to show. Assumes nothing.
-use Rattle.std.proofs.Common.{◌≡◌, sym, ◌∙◌, w64, SFits, rules}
+use Rattle.std.proofs.Common.{◌∙◌, w64, SFits, rules}
 use Rattle.std.proofs.lemmas.Int.{to_z-of_z}
 use Rattle.plans.specs.Plans.{plan_view}
 use Rattle.plancheck.proofs.Complaining.{preset_numbers}

@@ -1,5 +1,5 @@
 -- What `preset_verdict` leaves to show. Assumes nothing.
-use Rattle.std.proofs.Common.{◌≡◌, ◌<◌, List, length, ℤ, ap, ◌∙◌, arith, w64, SFits, rules}
+use Rattle.std.proofs.Common.{◌<◌, List, length, ℤ, ap, ◌∙◌, w64, SFits, rules}
 use Rattle.std.proofs.lemmas.Int.{to_z-of_z}
 use Rattle.integers.specs.Vectors.{dot}
 use Rattle.rows.specs.declared.row.Row.{Row}

@@ -1,5 +1,5 @@
 -- What `weights_of` leaves to show. Assumes nothing.
-use Rattle.std.proofs.Common.{◌≡◌, sym, subst, rules}
+use Rattle.std.proofs.Common.{sym, subst, rules}
 use Rattle.rows.specs.Limits.{largest, EachWithin}
 use Rattle.plancheck.proofs.Beyond.{none_found, all_within}
 use Rattle.plancheck.proofs.claims.weights_of.Goals as goal

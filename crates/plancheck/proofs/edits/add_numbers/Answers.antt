@@ -1,5 +1,5 @@
 -- What `add_numbers` leaves to show. Assumes nothing.
-use Rattle.std.proofs.Common.{◌≡◌, take, sym, refl, ap, ◌∙◌, w32, w64, SFits, to_z, of_z, rules}
+use Rattle.std.proofs.Common.{take, sym, refl, ap, ◌∙◌, w32, w64, SFits, to_z, of_z, rules}
 use Rattle.std.proofs.lemmas.Int.{to_z-of_z}
 use Rattle.rows.specs.Limits.{faders}
 use Rattle.rows.proofs.Blends.{some_narrowed}

@@ -1,5 +1,5 @@
 -- What `add_rule` leaves to show. Assumes nothing.
-use Rattle.std.proofs.Common.{◌≡◌, take, sym, refl, ap, ◌∙◌, w64, SFits, rules}
+use Rattle.std.proofs.Common.{take, sym, refl, ap, ◌∙◌, w64, SFits, rules}
 use Rattle.std.proofs.lemmas.Int.{to_z-of_z}
 use Rattle.rows.specs.Limits.{faders}
 use Rattle.plans.specs.Plans.{plan_view}

@@ -1,5 +1,5 @@
 -- What `narrow_each` leaves to show. Assumes nothing.
-use Rattle.std.proofs.Common.{◌≡◌, ℕ, ◌+◌, ◌<◌, length, get_or, take, set, ℤ, pos, Some, None, sym, refl, ap, ◌∙◌, arith, w32, w64, SFits, rules}
+use Rattle.std.proofs.Common.{◌≡◌, ℕ, ◌+◌, ◌<◌, length, get_or, take, set, pos, sym, ◌∙◌, arith, w32, w64, SFits, rules}
 use Rattle.std.proofs.lemmas.Int.{to_z-of_z}
 use Rattle.std.proofs.lemmas.List.{length-set, take_all}
 use Rattle.rows.specs.Limits.{largest}

@@ -1,5 +1,5 @@
 -- What `play` leaves to show. Assumes nothing.
-use Rattle.std.proofs.Common.{◌≡◌, ℕ, length, take, None, Option, refl, ap, ◌∙◌, subst}
+use Rattle.std.proofs.Common.{◌≡◌, length, take, None, Option, refl, ap, ◌∙◌, subst}
 use Rattle.engine.specs.declared.refusal.Refusal.{Refusal}
 use Rattle.elimination.specs.Table.{room}
 use Rattle.plans.specs.Plans.{no_plan}

@@ -1,5 +1,5 @@
 -- What `preset_text` leaves to show. Assumes nothing.
-use Rattle.std.proofs.Common.{◌+◌, ◌*◌, length, refl, append_assoc, arith}
+use Rattle.std.proofs.Common.{◌+◌, ◌*◌, length, append_assoc, arith}
 use Rattle.protocol.proofs.Appending.{few_from, holds_then, holds_as}
 use Rattle.protocol.proofs.lines.preset_text.Goals as goal
 

@@ -1,9 +1,7 @@
 use Rattle.std.proofs.Common.{◌≡◌, ℤ, pos, sym, ap, ◌∙◌, inl, inr, arith, SFits, to_z, of_z, rules, below_more}
 use mir.Syntax.{w128}
-use Rattle.std.proofs.lemmas.Int.{ints, to_z-of_z}
+use Rattle.std.proofs.lemmas.Int.{to_z-of_z}
 use Rattle.std.proofs.lemmas.Bool.{cases_lt}
-use Rattle.rows.specs.Rows.{constraints}
-use Rattle.rows.specs.Clashes.{column}
 use Rattle.rows.proofs.Weighing.{column_past}
 use Rattle.rows.proofs.clashes.first_column.Goals as goal
 

@@ -1,9 +1,9 @@
-use Rattle.std.proofs.Common.{◌≡◌, ℕ, ◌<◌, ◌≤◌, List, length, get_or, take, ℤ, pos, sym, ap, ◌∙◌, subst, arith, w32, to_z, of_z}
+use Rattle.std.proofs.Common.{◌≡◌, ℕ, List, length, get_or, take, ℤ, pos, sym, ◌∙◌, subst, arith, w32, to_z, of_z}
 use Rattle.std.proofs.lemmas.Int.{to_z-of_z}
 use Rattle.std.proofs.lemmas.List.{length-map, length-take-le, take-take, take_all, get_or-take}
 use Rattle.std.proofs.lemmas.Bool.Decides.{not_from_Decides}
 use Rattle.rows.specs.declared.weights.Weights.{Weights}
-use Rattle.rows.specs.Rows.{Constraint, constraint, constraints}
+use Rattle.rows.specs.Rows.{constraint, constraints}
 use Rattle.rows.specs.Clashes.{Weighs, Weighed, used}
 use Rattle.rows.proofs.Fits.{fits_32}
 use Rattle.rows.proofs.Weighing.{weighed_row_more, negative_row}

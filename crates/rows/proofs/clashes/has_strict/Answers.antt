@@ -1,9 +1,9 @@
-use Rattle.std.proofs.Common.{◌≡◌, ℕ, ◌<◌, List, [], length, get_or, drop, ℤ, pos, sym, refl, ap, subst, inl, inr, arith, w32, SFits}
+use Rattle.std.proofs.Common.{◌≡◌, List, length, get_or, drop, ℤ, pos, refl, subst, inl, inr, arith}
 use Rattle.std.proofs.lemmas.Int.{to_z-of_z}
 use Rattle.std.proofs.lemmas.List.{length-map, drop_all}
 use Rattle.std.proofs.lemmas.Bool.{cases_lt}
 use Rattle.std.proofs.lemmas.Bool.Decides.{not_from_Decides}
-use Rattle.rows.specs.Rows.{Constraint, constraint, constraints}
+use Rattle.rows.specs.Rows.{constraint, constraints}
 use Rattle.rows.specs.Clashes.{Strictly}
 use Rattle.rows.proofs.Fits.{fits_32}
 use Rattle.rows.proofs.Weighing.{strict_row, strictly_row_more, strictly_no_rows}

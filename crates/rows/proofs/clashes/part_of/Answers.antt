@@ -1,4 +1,4 @@
-use Rattle.std.proofs.Common.{◌≡◌, ℤ, pos, sym, ap, ◌∙◌, arith, lit≤}
+use Rattle.std.proofs.Common.{pos, sym, ap, ◌∙◌, arith, lit≤}
 use Rattle.std.proofs.lemmas.List.{get_or_past}
 use Rattle.rows.specs.declared.clashes.Part.{Part}
 use Rattle.rows.specs.Rows.{constraint}

@@ -1,8 +1,8 @@
-use Rattle.std.proofs.Common.{◌≡◌, ℕ, ◌/◌, ◌<◌, ◌≤◌, ℤ, pos, nat_abs, sym, ap, ◌∙◌, subst, div-le_self, arith, w32, SFits, to_z}
+use Rattle.std.proofs.Common.{◌≡◌, ℕ, ◌/◌, ◌<◌, ◌≤◌, ℤ, pos, nat_abs, sym, ◌∙◌, subst, div-le_self, arith, w32, SFits, to_z}
 use native.Mathlib.Nat.{pos_of_dvd_of_pos}
 use Rattle.std.proofs.lemmas.Int.{to_z-of_z, to_z_pos}
-use Rattle.integers.specs.Divisors.{gcd_of, IsGcd}
-use Rattle.rows.specs.Limits.{largest, Within}
+use Rattle.integers.specs.Divisors.{gcd_of}
+use Rattle.rows.specs.Limits.{Within}
 use Rattle.rows.proofs.combining.parts.Goals as goal
 
 -- a size divided by a number, in the narrow type

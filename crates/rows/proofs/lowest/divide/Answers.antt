@@ -1,9 +1,9 @@
-use Rattle.std.proofs.Common.{◌≡◌, ℕ, ◌+◌, ◌<◌, true, false, List, [], ◌∷◌, ◌++◌, length, get_or, take, set, ℤ, pos, Some, None, sym, refl, ap, ◌∙◌, arith, w32, w64, SFits, rules}
+use Rattle.std.proofs.Common.{◌≡◌, ℕ, ◌+◌, ◌<◌, List, length, get_or, take, set, ℤ, pos, sym, ap, ◌∙◌, arith, w32, w64, SFits, rules}
 use lib.Signed.{quot_z}
 use Rattle.std.proofs.lemmas.Int.{to_z-of_z}
 use Rattle.std.proofs.lemmas.List.{length-set, length-map, get_or-map, take_all}
 use Rattle.std.proofs.lemmas.Bool.{false≢true}
-use Rattle.rows.specs.Limits.{all_near, narrowed}
+use Rattle.rows.specs.Limits.{all_near}
 use Rattle.rows.specs.Presets.{divided}
 use Rattle.rows.proofs.Writing.{failed, placed, still_near}
 use Rattle.rows.proofs.lowest.divide.Goals as goal

@@ -1,4 +1,3 @@
-use Rattle.std.proofs.Common.{rules}
 use Rattle.sold_engine.proofs.samples.sample_plans_are_decided.Goals as goal
 use Rattle.sold_engine.proofs.Sampling.{samples_decided}
 

@@ -1,4 +1,3 @@
-use Rattle.std.proofs.Common.{rules}
 use Rattle.sold_engine.proofs.small.small_plans_are_taken.Goals as goal
 use Rattle.sold_engine.proofs.Taking.{small_plans_taken}
 

@@ -1,4 +1,4 @@
-use Rattle.std.proofs.Common.{◌≡◌, pos, ◌∙◌}
+use Rattle.std.proofs.Common.{pos, ◌∙◌}
 use Rattle.std.proofs.lemmas.List.{length-set}
 use Rattle.rows.proofs.Fits.{within_set, zero_within}
 use Rattle.substitution.proofs.levels.without.Goals as goal

@@ -1,8 +1,8 @@
-use Rattle.std.proofs.Common.{◌≡◌, ℕ, ◌<◌, ◌≤◌, List, map, length, get_or, take, ℤ, pos, Some, None, Option, sym, refl, ap, ◌∙◌, arith, w32, SFits, rules}
-use Rattle.std.proofs.lemmas.List.{length-map, length-take-le, get_or-take}
+use Rattle.std.proofs.Common.{◌≡◌, ℕ, ◌<◌, List, length, get_or, take, ℤ, pos, Some, None, Option, sym, ◌∙◌, arith, w32, SFits, rules}
+use Rattle.std.proofs.lemmas.List.{length-take-le, get_or-take}
 use Rattle.std.proofs.lemmas.Int.{to_z-of_z}
 use Rattle.rows.proofs.Fits.{fits_32}
-use Rattle.substitution.specs.Lifting.{add_terms, carried_weights}
+use Rattle.substitution.specs.Lifting.{carried_weights}
 use Rattle.substitution.specs.Holding.{kepts}
 use Rattle.substitution.specs.declared.kept.Kept.{Kept as Held}
 use Rattle.substitution.proofs.Terms.{with_term, terms_none, terms_some, terms_end, carried_at, carried_length}

@@ -1,4 +1,4 @@
-use Rattle.std.proofs.Common.{◌≡◌, ℕ, length, take, drop, pos}
+use Rattle.std.proofs.Common.{◌≡◌, length, take, drop, pos}
 use Rattle.substitution.specs.Lifting.{add_terms, carried_weights}
 use Rattle.substitution.specs.Holding.{kepts}
 use Rattle.substitution.proofs.lifting.lift_one.Given as goal

@@ -1,4 +1,3 @@
-use Rattle.std.proofs.Common.{rules}
 use Rattle.substitution.proofs.rightness.verdict_is_right_over_any.Goals as goal
 use Rattle.substitution.specs.Soundness.{sound_over}
 

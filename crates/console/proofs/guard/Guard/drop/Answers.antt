@@ -1,5 +1,5 @@
 -- What the guard's end leaves to show. Assumes nothing.
-use Rattle.std.proofs.Common.{◌≡◌, ◌<◌, ◌≤◌, Bool, true, false, List, length, get_or, take, sym, ap, ◌∙◌, add-one, arith, take_all}
+use Rattle.std.proofs.Common.{◌≤◌, Bool, List, length, sym, ap, ◌∙◌, add-one, arith, take_all}
 use Rattle.console.specs.Marks.{restored}
 use Rattle.console.proofs.Restoring.{restored_skips, restored_past, restored_turn}
 use Rattle.console.proofs.guard.Guard.drop.Goals.{then-muted-i+then-i-rules, else-muted-i, else-muted-i-via-then-muted-i+else-i-rules, else-muted-i-via-else-muted-i}

@@ -1,5 +1,5 @@
 -- What `sound` leaves to show. Assumes nothing.
-use Rattle.std.proofs.Common.{◌≡◌, true, false, List, set, refl, ap, ◌∙◌, arith}
+use Rattle.std.proofs.Common.{true, false, List, set, refl, ap, ◌∙◌, arith}
 use Rattle.plans.specs.declared.rule.Rule.{Rule}
 use Rattle.console.specs.Marks.{restored}
 use Rattle.console.proofs.Restoring.{marked_set, sound_kept}

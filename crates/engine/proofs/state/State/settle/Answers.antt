@@ -1,4 +1,4 @@
-use Rattle.std.proofs.Common.{◌≡◌, ℕ, sym, ap}
+use Rattle.std.proofs.Common.{ℕ, sym, ap}
 use Rattle.engine.specs.Interface.{answered}
 use Rattle.engine.specs.States.{state_view, kept_answer}
 use Rattle.engine.proofs.StateRows.{length_state_rows}

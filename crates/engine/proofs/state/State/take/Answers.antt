@@ -1,10 +1,8 @@
-use Rattle.std.proofs.Common.{◌≡◌, ◌<◌, List, length, Option, sym, refl, ap, ◌∙◌, subst, arith}
+use Rattle.std.proofs.Common.{List, sym, refl, ap, ◌∙◌, arith}
 use Rattle.std.proofs.lemmas.List.{length-set}
-use Rattle.engine.specs.declared.refusal.Refusal.{Refusal}
-use Rattle.rows.specs.Limits.{most_rows}
 use Rattle.rows.specs.Rows.{Constraint, constraint}
-use Rattle.engine.specs.Interface.{View, Answer, unused_refusal}
-use Rattle.engine.specs.States.{state_view, state_rows}
+use Rattle.engine.specs.Interface.{Answer, unused_refusal}
+use Rattle.engine.specs.States.{state_view}
 use Rattle.engine.proofs.StateRows.{length_state_rows, constraints_more, take_refusal_last}
 use Rattle.rows.proofs.UnusedFaders.{used_more, unused_zero}
 use Rattle.engine.proofs.state.State.take.Goals as goal

@@ -1,10 +1,7 @@
-use Rattle.std.proofs.Common.{◌≡◌, length, get_or, take, ℤ, pos, Ok, Err, Result, sym, ap, ◌∙◌, arith, w32}
+use Rattle.std.proofs.Common.{length, get_or, take, pos, Ok, sym, ap, ◌∙◌, arith}
 use Rattle.std.proofs.lemmas.List.{get_or-take}
 use Rattle.std.proofs.lemmas.Int.{to_z-of_z}
 use Rattle.std.proofs.lemmas.Bool.{cond-true, cond-false, lt-ltb, le-ltb}
-use Rattle.engine.specs.declared.answer.Answer.{Answer}
-use Rattle.engine.specs.declared.refusal.Refusal.{Refusal}
-use Rattle.engine.specs.declared.refusal.Refusal.TheVariants.{NoAnswer}
 use Rattle.engine.specs.States.{state_view, state_rows, kept_answer}
 use Rattle.rows.proofs.Fits.{fits_32}
 use Rattle.engine.proofs.StateRows.{length_state_rows, weight_at}

@@ -1,7 +1,7 @@
-use Rattle.std.proofs.Common.{◌≡◌, length, set, replicate, pos, sym, ap, ◌∙◌, subst, lit≤, w32}
+use Rattle.std.proofs.Common.{length, replicate, pos, sym, ap, ◌∙◌, subst, lit≤, w32}
 use Rattle.std.proofs.lemmas.Int.{to_z-of_z}
-use Rattle.std.proofs.lemmas.List.{length-set, length-replicate}
-use Rattle.rows.specs.Limits.{most_rows, EachWithin, Within}
+use Rattle.std.proofs.lemmas.List.{length-set}
+use Rattle.rows.specs.Limits.{most_rows, EachWithin}
 use Rattle.rows.proofs.Fits.{fits_32, within_set, zeros_within}
 use Rattle.rows.proofs.carried.Carried.listed.Goals as goal
 

@@ -1,8 +1,8 @@
-use Rattle.std.proofs.Common.{◌≡◌, List, length, subst, arith}
+use Rattle.std.proofs.Common.{◌≡◌, length, subst, arith}
 use Rattle.std.proofs.lemmas.List.{length-map, take_all}
 use Rattle.std.proofs.lemmas.Bool.Decides.{not_from_Decides}
 use Rattle.std.specs.List.{AllByRecursion as All}
-use Rattle.rows.specs.Rows.{Constraint, constraint, constraints, Meets, MeetsAll}
+use Rattle.rows.specs.Rows.{constraint, constraints, Meets}
 use Rattle.rows.proofs.Firsts.{first_row, all_rows_more}
 use Rattle.rows.proofs.preset.Preset.first_unmet.Goals as goal
 

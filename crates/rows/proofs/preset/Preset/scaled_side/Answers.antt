@@ -1,5 +1,5 @@
-use Rattle.std.proofs.Common.{◌≡◌, ℕ, ◌*◌, ◌^◌, ◌<◌, ◌≤◌, pos, ◌*ℤ◌, nat_abs, arith, w32, w64, SFits, to_z, rules}
-use Rattle.std.proofs.lemmas.Int.{ints, to_z-of_z, to_z_pos}
+use Rattle.std.proofs.Common.{◌≡◌, ◌*◌, ◌≤◌, pos, ◌*ℤ◌, nat_abs, arith, w32, w64, SFits, to_z}
+use Rattle.std.proofs.lemmas.Int.{to_z-of_z, to_z_pos}
 use Rattle.rows.specs.Limits.{largest}
 use Rattle.rows.proofs.Fits.{fits_32, fits_64, product}
 use Rattle.rows.proofs.preset.Preset.scaled_side.Goals as goal
