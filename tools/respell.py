@@ -5,7 +5,7 @@ usage: python3 tools/respell.py [FOLDER]
 
 A definition, lemma, field or constructor with dashes gets underscores (gcd-of: gcd_of); a type with dashes goes into upper camel case
 (Sound-over: SoundOver), and a fact named after a type keeps the dash behind the type; a name in lower camel case gets underscores.
-Names of the standard library stay, and so do the labels that the checker makes for goals. A word of a comment turns where the file's code
+In specs/ and clauses AllByRecursion of the standard library stands under its own name, which has to be so. Its other names stay, and so do the labels that the checker makes for goals. A word of a comment turns where the file's code
 has it, and a code span of a document where it is such a name. It prints each name whose new spelling stood in a file already.
 """
 
@@ -124,11 +124,20 @@ def turn_file(path, table, said):
 
     new = "\n".join(line(l) for l in text.split("\n"))
     new = re.sub(r"(?<![^\s{,])([^\s{},;]+) as \1(?=[\s,};])", r"\1", new)
+    if ("/specs/" in path or path.endswith(".rt")) and "AllByRecursion as All" in new:
+        new = "\n".join(own_all(l, mark) for l in new.split("\n"))
     if new != text:
         with open(path, "w", encoding="utf-8") as f:
             f.write(new)
         return 1
     return 0
+
+
+def own_all(line, mark):
+    if re.match(r"\s*(pub )?(ghost )?use ", line):
+        return line.replace("AllByRecursion as All", "AllByRecursion")
+    code, sep, comment = line.partition(mark)
+    return re.sub(r"(?<![\w.'-])All(?![\w'-])", "AllByRecursion", code) + sep + comment
 
 
 def turn_document(path, table):
