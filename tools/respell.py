@@ -143,7 +143,7 @@ def own_all(line, mark):
 def turn_document(path, table):
     with open(path, encoding="utf-8") as f:
         text = f.read()
-    new = re.sub(r"`[^`\n]+`", lambda s: WORD.sub(lambda m: table.get(m[0], m[0]), s[0]), text)
+    new = re.sub(r"`([^`\n]+)`", lambda s: "`" + WORD.sub(lambda m: table.get(m[0], m[0]), s[1]) + "`", text)
     if new != text:
         with open(path, "w", encoding="utf-8") as f:
             f.write(new)
