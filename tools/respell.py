@@ -63,10 +63,13 @@ def new_name(name, typed):
 def declared(top):
     table = {}
     for path in files(top):
+        with open(path, encoding="utf-8") as f:
+            text = f.read()
+        for m in re.finditer(r"(?<= as )[a-z]+(-[a-z]+)+(?=[,}\n])", text):
+            table[m[0]] = snake(m[0])
         if not path.endswith(".antt"):
             continue
-        with open(path, encoding="utf-8") as f:
-            text = code_of(f.read(), "--")
+        text = code_of(text, "--")
         for m in HEAD.finditer(text):
             name, kind = m[1], m[3]
             if re.match(r"(goal|given)\.", kind):
@@ -88,7 +91,6 @@ def lent(text):
         for item in re.split(r",", m[2] or ""):
             item = item.strip()
             if item:
-                found.add(item.split(" as ")[-1].strip())
                 found.add(item.split(" as ")[0].strip())
     return found
 
@@ -123,7 +125,7 @@ def turn_file(path, table, said):
         return "".join(pieces) + sep + comment
 
     new = "\n".join(line(l) for l in text.split("\n"))
-    new = re.sub(r"(?<![^\s{,])([^\s{},;]+) as \1(?=[\s,};])", r"\1", new)
+    new = re.sub(r"(?<=[{ ,])([^\s{},;]+) as \1(?=[,}])", r"\1", new)
     if ("/specs/" in path or path.endswith(".rt")) and "AllByRecursion as All" in new:
         new = "\n".join(own_all(l, mark) for l in new.split("\n"))
     if new != text:

@@ -3,7 +3,7 @@ ghost use Rattle.std.specs.Prelude.{◌≡◌, min, length, take, drop};
 ghost use Rattle.console.specs.Asking.{table_refusal};
 ghost use Rattle.console.specs.Replies.{reply_views};
 ghost use Rattle.console.specs.Law.{RunLaw, PlansValid};
-ghost use Rattle.console.specs.Exact.{replies as replies-of};
+ghost use Rattle.console.specs.Exact.{replies as replies_of};
 ghost use Rattle.plans.specs.Plans.{no_plan};
 
 use crate::command::Command;
@@ -23,7 +23,7 @@ pub fn play<E: Engine>(
     ensures rest { drop result replies.new ≡ drop result replies.old }
     ensures law { RunLaw E.Engine.verdict (table_refusal E.Engine.cells (length table.old)) (take result commands.now) (reply_views (take result replies.new)) }
     ensures valid { PlansValid (take result commands.now) }
-    ensures exact { reply_views (take result replies.new) ≡ replies-of E.Engine.verdict (table_refusal E.Engine.cells (length table.old)) no_plan (take result commands.now) }
+    ensures exact { reply_views (take result replies.new) ≡ replies_of E.Engine.verdict (table_refusal E.Engine.cells (length table.old)) no_plan (take result commands.now) }
 {
     let mut plan = Plan::new();
     let count = commands.len().min(replies.len());

@@ -2,7 +2,7 @@
 // Assumes, as each function requires, that the faders are among the six and that the table has at most 256 rows.
 ghost use Rattle.std.specs.Prelude.{◌≡◌, ◌<◌, ◌≤◌, length};
 ghost use Rattle.std.specs.Option.{option_map};
-ghost use Rattle.std.specs.Result.{result_map_both as mapped-ok};
+ghost use Rattle.std.specs.Result.{result_map_both as mapped_ok};
 ghost use Rattle.rows.specs.Limits.{faders};
 ghost use Rattle.elimination.specs.Lines.{lines};
 ghost use Rattle.elimination.specs.Table.{room};
@@ -48,7 +48,7 @@ fn at_rest() -> Preset
 // So many faders set; where a number is beyond G, the fault names the fader.
 pub fn all_set(table: &[Cell], count: u8) -> Result<Preset, Fault>
     requires { (count ≤ faders) × (length table.now ≤ room) }
-    ensures { mapped-ok levels_of (λ f. f) result ≡ all_set count (lines table.now) at_rest }
+    ensures { mapped_ok levels_of (λ f. f) result ≡ all_set count (lines table.now) at_rest }
 {
     let mut levels = at_rest();
     for k in (0..count).rev() {

@@ -1,6 +1,6 @@
-// The statements that change the plan. A refused one leaves it stood. Assumes nothing.
+// The statements that change the plan. A refused one leaves it as it stood. Assumes nothing.
 ghost use Rattle.std.specs.Prelude.{◌≡◌, take, pos, IfOk};
-ghost use Rattle.rows.specs.Limits.{faders as desk-places};
+ghost use Rattle.rows.specs.Limits.{faders as desk_places};
 ghost use Rattle.engine.specs.Interface.{Does};
 ghost use Rattle.plans.specs.Plans.{plan_view};
 ghost use Rattle.plans.specs.Edits.{after_add};
@@ -46,7 +46,7 @@ fn add_numbers(
     comparison: Comparison,
     side: i64,
 ) -> Result<(), Refusal>
-    ensures { Does (numbers_refusal (kind_number comparison) (take desk-places numbers.now.values) side (plan_view plan.old)) (after_add (kind_number comparison) (take desk-places numbers.now.values) side (plan_view plan.old)) (plan_view plan.old) result (plan_view plan.new) }
+    ensures { Does (numbers_refusal (kind_number comparison) (take desk_places numbers.now.values) side (plan_view plan.old)) (after_add (kind_number comparison) (take desk_places numbers.now.values) side (plan_view plan.old)) (plan_view plan.old) result (plan_view plan.new) }
 {
     let values = first_six(numbers);
     let coefficients = match coefficients(&values) {

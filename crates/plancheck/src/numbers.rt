@@ -2,7 +2,7 @@
 ghost use Rattle.std.specs.Prelude.{◌≡◌, length, take, None};
 ghost use Rattle.rows.specs.Limits.{largest, faders};
 ghost use Rattle.plans.specs.Ranges.{coefficient_range};
-ghost use Rattle.plancheck.specs.Numbers.{bounded, first_beyond, each_within, denominator_of as whole-denominator};
+ghost use Rattle.plancheck.specs.Numbers.{bounded, first_beyond, each_within, denominator_of as whole_denominator};
 
 use plans::COEFFICIENT;
 use plantext::Numbers;
@@ -79,7 +79,7 @@ pub fn weights(values: &[i64; ROWS]) -> Result<[i32; ROWS], usize>
 
 // A denominator, from 1 to G; none where it is out of range.
 pub fn denominator_of(z: i64) -> Option<u32>
-    ensures { result ≡ whole-denominator z }
+    ensures { result ≡ whole_denominator z }
 {
     if z < 1 || z > G as i64 {
         return None;

@@ -1,7 +1,7 @@
 // The calls that edit a plan. A refused call leaves the plan as it stood. Assumes nothing.
 ghost use Rattle.std.specs.Prelude.{◌≡◌, true, false};
 ghost use Rattle.plans.specs.Plans.{plan_view, no_plan};
-ghost use Rattle.plans.specs.Edits.{Opened, Added, Lifted, Marked, already as already-at};
+ghost use Rattle.plans.specs.Edits.{Opened, Added, Lifted, Marked, already as already_at};
 
 use crate::kinds::kind_of;
 use crate::plan::Plan;
@@ -13,7 +13,7 @@ use rows::row::Row;
 
 // The rule has the mark that is wanted.
 fn already(sounds: bool) -> Refusal
-    ensures { result ≡ already-at sounds }
+    ensures { result ≡ already_at sounds }
 {
     if sounds {
         Refusal::AlreadySounding

@@ -3,7 +3,7 @@ ghost use Rattle.std.specs.Prelude.{◌≡◌, min, length, take, drop, None};
 ghost use Rattle.plans.specs.Plans.{no_plan};
 ghost use Rattle.console.specs.Replies.{reply_views};
 ghost use Rattle.console.specs.Law.{RunLaw};
-ghost use Rattle.console.specs.Exact.{replies as replies-of};
+ghost use Rattle.console.specs.Exact.{replies as replies_of};
 ghost use Rattle.sold_engine.specs.Sold.{sold_verdict};
 ghost use Rattle.preset_box.specs.SmallRuns.{SmallLaw};
 
@@ -16,7 +16,7 @@ pub fn play(commands: &[Command], replies: &mut [Reply]) -> usize
     ensures rest { drop result replies.new ≡ drop result replies.old }
     ensures law { RunLaw sold_verdict None (take result commands.now) (reply_views (take result replies.new)) }
     ensures small { SmallLaw (take result commands.now) (reply_views (take result replies.new)) }
-    ensures exact { reply_views (take result replies.new) ≡ replies-of sold_verdict None no_plan (take result commands.now) }
+    ensures exact { reply_views (take result replies.new) ≡ replies_of sold_verdict None no_plan (take result commands.now) }
 {
     let mut engine = new_engine();
     let mut table = new_table();

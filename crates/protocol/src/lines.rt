@@ -1,7 +1,7 @@
 // The line of each reply. Assumes nothing.
 ghost use Rattle.std.specs.Prelude.{◌≡◌, ◌≤◌, ◌∷◌, ◌++◌, map, length, take, pos, codes};
 ghost use Rattle.engine.specs.Refusals.{number, carries};
-ghost use Rattle.rows.specs.Limits.{faders as most-faders, most_rows};
+ghost use Rattle.rows.specs.Limits.{faders as most_faders, most_rows};
 ghost use Rattle.protocol.specs.Held.{held, Holds};
 ghost use Rattle.protocol.specs.Lines.{item, items, marked, most_text, text_of, line_of};
 
@@ -18,7 +18,7 @@ fn front(numbers: &[i32], count: u8) -> &[i32]
 }
 
 fn preset_text(numerators: &[i32], denominator: u32) -> Line
-    requires { length numerators.now ≤ most-faders }
+    requires { length numerators.now ≤ most_faders }
     ensures { Holds (codes "PRESET" ++ (items numerators.now ++ (codes " /" ++ item (pos denominator)))) most_text result }
 {
     let mut line = Line::new(b"PRESET");

@@ -6,7 +6,7 @@ ghost use Rattle.rows.specs.Limits.{most_rows, Within};
 ghost use Rattle.rows.specs.Rows.{constraint, constraints, Infeasible};
 ghost use Rattle.rows.specs.Parts.{number, numbers};
 ghost use Rattle.rows.specs.Clashes.{used, Weighs, Weighed, Strictly, Falsehood, FirstNegative, FirstColumn, Clash, Flawed};
-ghost use Rattle.rows.specs.Clashes.{column as column-of, total as total_of};
+ghost use Rattle.rows.specs.Clashes.{column as column_of, total as total_of};
 
 use crate::bounds::{FADERS, ROWS};
 use crate::flaw::ClashFlaw;
@@ -51,7 +51,7 @@ fn weighted_sum(weights: &Weights, rows: &[Row], part: Part) -> i128
 
 // Weights times the coefficients of a fader, added.
 pub fn column(weights: &Weights, rows: &[Row], fader: usize) -> i128
-    ensures { result ≡ column-of weights.now.values (constraints rows.now) fader }
+    ensures { result ≡ column_of weights.now.values (constraints rows.now) fader }
 {
     weighted_sum(weights, rows, Part::Coefficient(fader))
 }
@@ -88,7 +88,7 @@ fn first_negative(weights: &Weights, rows: &[Row]) -> Option<usize>
 
 // The lowest fader whose column is not 0; none where all are.
 fn first_column(weights: &Weights, rows: &[Row]) -> Option<usize>
-    ensures { MatchOption result ((k : ℕ) → column-of weights.now.values (constraints rows.now) k ≡ pos 0) (λ k. FirstColumn weights.now.values (constraints rows.now) k) }
+    ensures { MatchOption result ((k : ℕ) → column_of weights.now.values (constraints rows.now) k ≡ pos 0) (λ k. FirstColumn weights.now.values (constraints rows.now) k) }
 {
     for k in 0..FADERS {
         if column(weights, rows, k) != 0 {

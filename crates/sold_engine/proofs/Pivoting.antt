@@ -13,7 +13,7 @@ use Rattle.engine.specs.Exactness.{Taken}
 use Rattle.engine.specs.Verdicts.{Verdict, number_beyond}
 use Rattle.rows.proofs.Alls.{mapped, none_some}
 use Rattle.elimination.specs.Working.{first_equation, elimination_verdict}
-use Rattle.elimination.specs.Working.{is_equation as is-equation-below}
+use Rattle.elimination.specs.Working.{is_equation as is_equation_below}
 use Rattle.substitution.specs.Reduction.{Kept, Pivot, at, is_equation}
 use Rattle.substitution.specs.Lifting.{completed, all_completed, weights_verdict, lifted}
 use Rattle.substitution.specs.Working.{handed_down}
@@ -106,7 +106,7 @@ no_equation : (i : ℕ) (rs : List Kept) → All (λ r. Plain r.kind) rs → fir
 no_equation i [] h = refl
 no_equation i (r ∷ rs) h = by r.kind h.0 (no_equation (i + 1) rs h.1)
   where
-    by : (k : Kind) → Plain k → first_equation (i + 1) (map handed_down rs) ≡ None → cond (is-equation-below k) (Some i) (first_equation (i + 1) (map handed_down rs)) ≡ None
+    by : (k : Kind) → Plain k → first_equation (i + 1) (map handed_down rs) ≡ None → cond (is_equation_below k) (Some i) (first_equation (i + 1) (map handed_down rs)) ≡ None
     by AtMost p e = e
     by Below p e = e
     by Equal p e = absurd (true≢false p)

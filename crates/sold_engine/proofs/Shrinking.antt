@@ -4,7 +4,7 @@ use borrow.Author.Differences.{ints}
 use Rattle.std.proofs.lemmas.Bool.{and_from, cond-true, cond-false, ne_eqb}
 use Rattle.integers.specs.Divisors.{gcd_of, gcd_all}
 use Rattle.integers.specs.Fractions.{Same, NoLarger, lowest_numerator, lowest_denominator}
-use Rattle.integers.proofs.FractionLaws.{smallest, divided as divided-terms, divided_reduced}
+use Rattle.integers.proofs.FractionLaws.{smallest, divided as divided_terms, divided_reduced}
 use Rattle.integers.proofs.Inequality.{given, ◌and◌, follows}
 use Rattle.integers.proofs.Order.{*ℤ-cancel}
 use Rattle.integers.proofs.Ring.{var, ◌⊗◌}
@@ -31,7 +31,7 @@ lowest_some n d strict p q hd hq s hp few =
     let g = gcd_of (nat_abs n) d in
     let pd : pos 0 <ℤ pos d = omega (arith, ints) in
     let pq : pos 0 <ℤ pos q = omega (arith, ints) in
-    let t = divided-terms n (pos d) pd in
+    let t = divided_terms n (pos d) pd in
     let r = divided_reduced n (pos d) m e g t in
     let small = r.least p (pos q) pq s in
     let whole = positive_is e t.positive in

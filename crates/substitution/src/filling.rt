@@ -1,4 +1,4 @@
-// The list of rows that stand, and what fills the places that are not used. Assumes nothing.
+// The list of rows as rows that stand, and what fills the places that are not used. Assumes nothing.
 ghost use Rattle.std.specs.Prelude.{◌≡◌, ◌≤◌, length, take, replicate, pos, slice_set};
 ghost use Rattle.rows.specs.declared.kind.Kind.TheVariants.{AtMost};
 ghost use Rattle.rows.specs.Limits.{faders, most_rows};
