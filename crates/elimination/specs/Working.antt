@@ -1,5 +1,5 @@
 -- The working of the elimination engine, from rows to its verdict. Assumes nothing.
-use Rattle.std.specs.Prelude.{ℕ, zero, suc, ◌+◌, Bool, true, false, cond, not, ◌&&◌, ◌||◌, ltb, List, [], ◌∷◌, length, take, replicate, pos, Some, None, Ok, Err, count_by, filter, Option, Result, int_lt, slice_set, unsigned_abs}
+use Rattle.std.specs.Prelude.{ℕ, zero, suc, ◌+◌, Bool, true, false, cond, not, ◌&&◌, ◌||◌, nat_lt, List, [], ◌∷◌, length, take, replicate, pos, Some, None, Ok, Err, count_by, filter, Option, Result, int_lt, slice_set, unsigned_abs}
 use Rattle.rows.specs.declared.kind.Kind.{Kind}
 use Rattle.rows.specs.declared.kind.Kind.TheVariants.{AtMost, Below, Equal}
 use Rattle.engine.specs.declared.fault.Fault.{Fault}
@@ -39,11 +39,11 @@ is_false r = stands r && (int_lt r.side (pos 0) || (r.strict && not (int_lt (pos
 
 -- how many weights are other than 0
 abbrev pub support : Line → ℕ
-support r = count_by (λ w. ltb 0 (unsigned_abs w)) r.weights
+support r = count_by (λ w. nat_lt 0 (unsigned_abs w)) r.weights
 
 -- the false row with the fewest, the first among equals
 abbrev pub chosen_false : List Line → Option Line
-chosen_false t = first_best (λ x y. ltb (support x) (support y)) (filter is_false t)
+chosen_false t = first_best (λ x y. nat_lt (support x) (support y)) (filter is_false t)
 
 -- faders set from the highest down, the last one set being fader 0
 abbrev pub all_set : ℕ → List Line → Levels → Result Levels Fault

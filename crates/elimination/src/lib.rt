@@ -1,4 +1,4 @@
-// The engine that works by Fourier-Motzkin elimination, in a lent table of carried rows. It sees the crates `engine` and `integers`.
+// The engine that works by Fourier-Motzkin elimination, in a lent table of carried rows. It sees the crates `engine`, `rows` and `integers`.
 #![tactic(auto)]
 
 mod bests;

@@ -1,6 +1,6 @@
 // Each refusal's number, and the numbers that it carries. Assumes nothing.
 ghost use Rattle.std.specs.Prelude.{◌≡◌};
-ghost use Rattle.engine.specs.Refusals.{number as number_of_lem};
+ghost use Rattle.engine.specs.Refusals.{number as number_of};
 
 use crate::fault::Fault;
 use crate::refusal::Refusal;
@@ -20,7 +20,7 @@ impl Fault {
 
 impl Refusal {
     pub fn number(&self) -> u8
-        ensures { result ≡ number_of_lem self.now }
+        ensures { result ≡ number_of self.now }
     {
         match self {
             Refusal::BadCount => 1,
