@@ -18,9 +18,9 @@ use Rattle.plantext.specs.declared.statement.Comparison.{Comparison}
 use Rattle.plantext.specs.declared.statement.Comparison.TheVariants.{AtMost, Below, Equal}
 use Rattle.plantext.specs.declared.statement.Numbers.{Numbers}
 use Rattle.plantext.specs.declared.statement.Statement.{Statement}
-use Rattle.plantext.specs.declared.statement.Statement.TheVariants.{Blank, Faders as FadersIs, Rule, Preset as PresetIs, Clash as ClashIs}
+use Rattle.plantext.specs.declared.statement.Statement.TheVariants.{Blank, Faders as FadersIs, Rule, Preset as PresetIs, Clash as ClashIs, Ask as AskIs, Blame as BlameIs}
 use Rattle.plantext.specs.declared.word.Word.{Word}
-use Rattle.plantext.specs.declared.word.Word.TheVariants.{Faders, Preset, Clash, Compare, Slash, Number}
+use Rattle.plantext.specs.declared.word.Word.TheVariants.{Faders, Preset, Clash, Ask, Blame, Compare, Slash, Number}
 use Rattle.plantext.proofs.Spaced.{plain, Whole, words_of_spaced}
 use Rattle.plantext.proofs.Spelt.{own}
 
@@ -48,7 +48,7 @@ word_of_digits : (ds : List ℕ) → all_ascii_digits ds ≡ true → 0 < length
 word_of_digits [] all some = absurd (omega arith)
 word_of_digits (d ∷ ds) all some =
     let h = (tells_all_ascii_digits.parts d ds all).0 in
-    rw (ne_eqb d 102 (omega arith), ne_eqb d 112 (omega arith), ne_eqb d 99 (omega arith), ne_eqb d 60 (omega arith), ne_eqb d 61 (omega arith), ne_eqb d 47 (omega arith), ne_eqb d 45 (omega arith), ne_eqb d 43 (omega arith))
+    rw (ne_eqb d 102 (omega arith), ne_eqb d 112 (omega arith), ne_eqb d 99 (omega arith), ne_eqb d 97 (omega arith), ne_eqb d 98 (omega arith), ne_eqb d 60 (omega arith), ne_eqb d 61 (omega arith), ne_eqb d 47 (omega arith), ne_eqb d 45 (omega arith), ne_eqb d 43 (omega arith))
 
 word_of_signed : (z : ℤ) → Small z → word_of (signed_decimal z) ≡ Number z
 word_of_signed (pos n) h = word_of_digits (decimal n) (digits_decimal own n (omega arith)) (decimal_nonempty n (omega arith)) ∙ digits_are pos n h
@@ -130,3 +130,5 @@ reads_back (ClashIs ns) h =
     (ap (λ x. Clash ∷ x) (words_of_numbers zs h.small ∙ sym (append-nil _)))
     (known_front 1 zs [] (λ _. refl))
     (rw (numbers_front zs [], after_front zs [], append-nil zs) (ap (λ r. r and_then λ ms. Ok (ClashIs ms)) (held_listed ns h)))
+reads_back AskIs h = said AskIs (Ask ∷ []) (record { some = omega arith; bytes = refl }, tt) refl refl refl
+reads_back BlameIs h = said BlameIs (Blame ∷ []) (record { some = omega arith; bytes = refl }, tt) refl refl refl

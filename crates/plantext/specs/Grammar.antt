@@ -6,9 +6,9 @@ use Rattle.plantext.specs.declared.statement.Numbers.{Numbers}
 use Rattle.plantext.specs.declared.statement.Problem.{Problem}
 use Rattle.plantext.specs.declared.statement.Problem.TheVariants.{UnknownWord, TooLong as LongAt, TooManyNumbers, NoStatement}
 use Rattle.plantext.specs.declared.statement.Statement.{Statement}
-use Rattle.plantext.specs.declared.statement.Statement.TheVariants.{Blank, Faders as FadersIs, Rule, Preset as PresetIs, Clash as ClashIs}
+use Rattle.plantext.specs.declared.statement.Statement.TheVariants.{Blank, Faders as FadersIs, Rule, Preset as PresetIs, Clash as ClashIs, Ask as AskIs, Blame as BlameIs}
 use Rattle.plantext.specs.declared.word.Word.{Word}
-use Rattle.plantext.specs.declared.word.Word.TheVariants.{Faders, Preset, Clash, Compare, Slash, Number, TooLong, Unknown}
+use Rattle.plantext.specs.declared.word.Word.TheVariants.{Faders, Preset, Clash, Ask, Blame, Compare, Slash, Number, TooLong, Unknown}
 
 infixl 10 ◌and_then◌
 -- goes on with the value of an `Ok`, and stops at an `Err`
@@ -23,6 +23,8 @@ known n TooLong = Err (LongAt n)
 known n Faders = Ok tt
 known n Preset = Ok tt
 known n Clash = Ok tt
+known n Ask = Ok tt
+known n Blame = Ok tt
 known n (Compare c) = Ok tt
 known n Slash = Ok tt
 known n (Number z) = Ok tt
@@ -38,6 +40,8 @@ number_in (Number z) = Some z
 number_in Faders = None
 number_in Preset = None
 number_in Clash = None
+number_in Ask = None
+number_in Blame = None
 number_in (Compare c) = None
 number_in Slash = None
 number_in TooLong = None
@@ -74,6 +78,8 @@ rule zs (Compare c ∷ ws) = one_number ws and_then λ side. held zs and_then λ
 rule zs (Faders ∷ ws) = Err NoStatement
 rule zs (Preset ∷ ws) = Err NoStatement
 rule zs (Clash ∷ ws) = Err NoStatement
+rule zs (Ask ∷ ws) = Err NoStatement
+rule zs (Blame ∷ ws) = Err NoStatement
 rule zs (Slash ∷ ws) = Err NoStatement
 rule zs (Number z ∷ ws) = Err NoStatement
 rule zs (TooLong ∷ ws) = Err NoStatement
@@ -86,6 +92,8 @@ preset zs (Slash ∷ ws) = one_number ws and_then λ d. held zs and_then λ ns. 
 preset zs (Faders ∷ ws) = Err NoStatement
 preset zs (Preset ∷ ws) = Err NoStatement
 preset zs (Clash ∷ ws) = Err NoStatement
+preset zs (Ask ∷ ws) = Err NoStatement
+preset zs (Blame ∷ ws) = Err NoStatement
 preset zs (Compare c ∷ ws) = Err NoStatement
 preset zs (Number z ∷ ws) = Err NoStatement
 preset zs (TooLong ∷ ws) = Err NoStatement
@@ -96,12 +104,19 @@ abbrev pub clash : List ℤ → List Word → Result Statement Problem
 clash zs [] = held zs and_then λ ns. Ok (ClashIs ns)
 clash zs (w ∷ ws) = Err NoStatement
 
+-- nothing, after a statement of one word
+abbrev pub alone : Statement → List Word → Result Statement Problem
+alone s [] = Ok s
+alone s (w ∷ ws) = Err NoStatement
+
 -- what words that are all known say
 abbrev pub statement : List Word → Result Statement Problem
 statement [] = Ok Blank
 statement (Faders ∷ ws) = one_number ws and_then λ n. Ok (FadersIs n)
 statement (Preset ∷ ws) = preset (front_numbers ws) (after_numbers ws)
 statement (Clash ∷ ws) = clash (front_numbers ws) (after_numbers ws)
+statement (Ask ∷ ws) = alone AskIs ws
+statement (Blame ∷ ws) = alone BlameIs ws
 statement (Compare c ∷ ws) = rule [] (Compare c ∷ ws)
 statement (Number z ∷ ws) = rule (z ∷ front_numbers ws) (after_numbers ws)
 statement (Slash ∷ ws) = Err NoStatement

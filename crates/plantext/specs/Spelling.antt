@@ -4,7 +4,7 @@ use Rattle.std.specs.Str.Parse.{digits_value}
 use Rattle.std.specs.Str.{all_ascii_digits, bytes_eq}
 use Rattle.plantext.specs.declared.statement.Comparison.TheVariants.{AtMost, Below, Equal}
 use Rattle.plantext.specs.declared.word.Word.{Word}
-use Rattle.plantext.specs.declared.word.Word.TheVariants.{Faders, Preset, Clash, Compare, Slash, Number, TooLong, Unknown}
+use Rattle.plantext.specs.declared.word.Word.TheVariants.{Faders, Preset, Clash, Ask, Blame, Compare, Slash, Number, TooLong, Unknown}
 
 -- one to twelve decimal digits ds are a number, their value with the sign s; more are too long, and anything else is not known
 abbrev pub digits_word : (ℕ → ℤ) → List ℕ → Word
@@ -25,8 +25,10 @@ word_of bs =
     cond (bytes_eq bs (codes "faders")) Faders
     (cond (bytes_eq bs (codes "preset")) Preset
     (cond (bytes_eq bs (codes "clash")) Clash
+    (cond (bytes_eq bs (codes "ask")) Ask
+    (cond (bytes_eq bs (codes "blame")) Blame
     (cond (bytes_eq bs (codes "<=")) (Compare AtMost)
     (cond (bytes_eq bs (codes "<")) (Compare Below)
     (cond (bytes_eq bs (codes "=")) (Compare Equal)
     (cond (bytes_eq bs (codes "/")) Slash
-    (number_word bs)))))))
+    (number_word bs)))))))))

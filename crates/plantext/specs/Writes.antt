@@ -7,7 +7,7 @@ use Rattle.plantext.specs.declared.statement.Comparison.{Comparison}
 use Rattle.plantext.specs.declared.statement.Comparison.TheVariants.{AtMost, Below, Equal}
 use Rattle.plantext.specs.declared.statement.Numbers.{Numbers}
 use Rattle.plantext.specs.declared.statement.Statement.{Statement}
-use Rattle.plantext.specs.declared.statement.Statement.TheVariants.{Blank, Faders, Rule, Preset, Clash}
+use Rattle.plantext.specs.declared.statement.Statement.TheVariants.{Blank, Faders, Rule, Preset, Clash, Ask, Blame}
 
 -- the numbers that a statement holds
 abbrev pub listed : Numbers → List ℤ
@@ -26,6 +26,8 @@ spelt (Faders n) = codes "faders" ∷ signed_decimal n ∷ []
 spelt (Rule ns c side) = map signed_decimal (listed ns) ++ (mark c ∷ signed_decimal side ∷ [])
 spelt (Preset ns d) = codes "preset" ∷ (map signed_decimal (listed ns) ++ (codes "/" ∷ signed_decimal d ∷ []))
 spelt (Clash ns) = codes "clash" ∷ map signed_decimal (listed ns)
+spelt Ask = codes "ask" ∷ []
+spelt Blame = codes "blame" ∷ []
 
 -- words with one space between each two
 abbrev pub spaced : List (List ℕ) → List ℕ
@@ -55,6 +57,8 @@ Sound (Faders n) = Small n
 Sound (Rule ns c side) = Proper ns × Small side
 Sound (Preset ns d) = Proper ns × Small d
 Sound (Clash ns) = Proper ns
+Sound Ask = Unit {0}
+Sound Blame = Unit {0}
 
 -- a statement whose numbers have at most twelve digits is what its text says
 abbrev pub ReadsBack : Type 0

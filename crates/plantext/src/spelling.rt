@@ -75,6 +75,10 @@ pub fn read_word(bytes: &[u8]) -> Word
         Word::Preset
     } else if same(bytes, b"clash") {
         Word::Clash
+    } else if same(bytes, b"ask") {
+        Word::Ask
+    } else if same(bytes, b"blame") {
+        Word::Blame
     } else if same(bytes, b"<=") {
         Word::Compare(Comparison::AtMost)
     } else if same(bytes, b"<") {

@@ -30,6 +30,10 @@ pub enum Statement {
     Preset(Numbers, i64),
     // `clash 0 1 1 1`: weights
     Clash(Numbers),
+    // `ask`: which answer the rules have
+    Ask,
+    // `blame`: which rules exclude each other
+    Blame,
 }
 
 // Why a line is no statement.

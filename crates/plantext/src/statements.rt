@@ -1,6 +1,6 @@
 // Reads a line. Assumes nothing.
 ghost use Rattle.std.specs.Prelude.{◌≡◌};
-ghost use Rattle.plantext.specs.Grammar.{words_of, known, all_known, front_numbers, after_numbers, rule, preset, clash, statement, statement_of};
+ghost use Rattle.plantext.specs.Grammar.{words_of, known, all_known, front_numbers, after_numbers, rule, preset, clash, alone, statement as statement_in, statement_of};
 ghost use Rattle.plantext.specs.Writes.{ReadsBack};
 
 use crate::cut::uncommented;
@@ -68,15 +68,27 @@ fn read_clash(text: &[u8]) -> Result<Statement, Problem>
     }
 }
 
+// A statement of one word, after that word.
+fn read_end(text: &[u8], statement: Statement) -> Result<Statement, Problem>
+    ensures { result ≡ alone statement (words_of text.now) }
+{
+    match next_word(text) {
+        None => Ok(statement),
+        Some(_) => Err(Problem::NoStatement),
+    }
+}
+
 // A text whose words are all known.
 fn read_statement(text: &[u8]) -> Result<Statement, Problem>
-    ensures { result ≡ statement (words_of text.now) }
+    ensures { result ≡ statement_in (words_of text.now) }
 {
     match next_word(text) {
         None => Ok(Statement::Blank),
         Some((Word::Faders, rest)) => Ok(Statement::Faders(one_number(rest)?)),
         Some((Word::Preset, rest)) => read_preset(rest),
         Some((Word::Clash, rest)) => read_clash(rest),
+        Some((Word::Ask, rest)) => read_end(rest, Statement::Ask),
+        Some((Word::Blame, rest)) => read_end(rest, Statement::Blame),
         Some(_) => read_rule(text),
     }
 }

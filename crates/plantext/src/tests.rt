@@ -34,6 +34,8 @@ fn reads_other_statements(rt: HostRuntime) {
     assert!(rt;
         matches!(read_line(b"clash 0 1 1 1"), Ok(Statement::Clash(n)) if are(n, [0, 1, 1, 1], 4))
     );
+    assert!(rt; matches!(read_line(b"ask"), Ok(Statement::Ask)));
+    assert!(rt; matches!(read_line(b"blame"), Ok(Statement::Blame)));
     assert!(rt; matches!(read_line(b"  # nothing"), Ok(Statement::Blank)));
     assert!(rt; matches!(read_line(b""), Ok(Statement::Blank)));
 }
@@ -43,6 +45,8 @@ fn refuses(rt: HostRuntime) {
     assert!(rt; matches!(read_line(b"1 x <= 3"), Err(Problem::UnknownWord(1))));
     assert!(rt; matches!(read_line(b"1 <= 9999999999999"), Err(Problem::TooLong(2))));
     assert!(rt; matches!(read_line(b"1 1 <="), Err(Problem::NoStatement)));
+    assert!(rt; matches!(read_line(b"ask 1"), Err(Problem::NoStatement)));
+    assert!(rt; matches!(read_line(b"blame 1"), Err(Problem::NoStatement)));
     assert!(rt;
         matches!(
             read_line(b"clash 1 1 1 1 1 1 1 1 1 1 1 1 1 1 1 1 1"),

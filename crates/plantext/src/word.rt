@@ -6,6 +6,8 @@ pub enum Word {
     Faders,
     Preset,
     Clash,
+    Ask,
+    Blame,
     Compare(Comparison),
     Slash,
     // a sign, if any, and one to twelve digits
