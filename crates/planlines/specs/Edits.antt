@@ -1,0 +1,53 @@
+-- What the statements that change a plan do. Assumes nothing.
+use Rattle.std.specs.Prelude.{◌≡◌, ℕ, cond, not, List, length, take, ℤ, pos, negsuc, Some, None, Ok, Err, Option, Result, ◌==◌}
+use Rattle.rows.specs.Limits.{faders, near}
+use Rattle.engine.specs.Interface.{Does, first_refusal, refused_if, count_refusal, unused_refusal}
+use Rattle.engine.specs.declared.refusal.Refusal.{Refusal}
+use Rattle.engine.specs.declared.refusal.Refusal.TheVariants.{BadCount, NoPlan, BadSide}
+use Rattle.plans.specs.Ranges.{coefficient_range}
+use Rattle.plans.specs.Plans.{PlanView}
+use Rattle.plans.specs.Edits.{Opened, add_refusal, after_add}
+use Rattle.plantext.specs.declared.statement.Numbers.{Numbers}
+use Rattle.plantext.specs.declared.statement.Comparison.{Comparison}
+use Rattle.plantext.specs.declared.statement.Comparison.TheVariants.{AtMost, Below, Equal}
+use Rattle.planlines.specs.declared.complaint.Complaint.{Complaint}
+use Rattle.planlines.specs.declared.complaint.Complaint.TheVariants.{Refused, Coefficients}
+use Rattle.planlines.specs.Numbers.{first_beyond}
+
+-- a desk with so many faders; no desk has a count below 0
+abbrev pub Opens : {U : Type 0} → ℤ → PlanView → Result U Refusal → PlanView → Type 0
+Opens (pos n) v r w = Opened n v r w
+Opens (negsuc n) v r w = Does (Some BadCount) v v r w
+
+-- the number of a comparison's kind
+abbrev pub kind_number : Comparison → ℕ
+kind_number AtMost = 0
+kind_number Below = 1
+kind_number Equal = 2
+
+-- numbers that no rule has, and then what the plan refuses
+abbrev pub numbers_refusal : ℕ → List ℤ → ℤ → PlanView → Option Refusal
+numbers_refusal kind zs s v =
+    first_refusal (unused_refusal (first_beyond coefficient_range 0 zs))
+    (first_refusal (refused_if (not (near s)) BadSide)
+    (add_refusal kind zs s v))
+
+abbrev pub refused_by : Option Refusal → Option Complaint
+refused_by None = None
+refused_by (Some refusal) = Some (Refused refusal)
+
+-- why no such desk is opened
+abbrev pub desk_complaint : ℤ → Option Complaint
+desk_complaint (pos n) = refused_by (count_refusal n)
+desk_complaint (negsuc n) = Some (Refused BadCount)
+
+abbrev pub rule_complaint : Numbers → Comparison → ℤ → PlanView → Option Complaint
+rule_complaint ns c s v =
+    cond (v.count == 0) (Some (Refused NoPlan))
+    (cond (ns.len == v.count) (refused_by (numbers_refusal (kind_number c) (take faders ns.values) s v))
+    (Some (Coefficients (record { found = ns.len; wanted = v.count }))))
+
+-- what is replied to a rule: its number, or why the line is bad
+abbrev pub RuleAdded : Numbers → Comparison → ℤ → PlanView → Result ℕ Complaint → PlanView → Type 0
+RuleAdded ns c s v (Ok n) w = (rule_complaint ns c s v ≡ None) × (w ≡ after_add (kind_number c) (take faders ns.values) s v) × (n ≡ length w.rules)
+RuleAdded ns c s v (Err e) w = (rule_complaint ns c s v ≡ Some e) × (w ≡ v)
