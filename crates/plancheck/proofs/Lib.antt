@@ -1,5 +1,0 @@
--- The lemmas that several proofs share.
-pub mod Beyond
-pub mod Places
-pub mod Complaining
-pub mod Adding

@@ -1,6 +1,0 @@
--- The definitions that contracts cite.
-pub mod Numbers
-pub mod Claims
-pub mod Edits
-pub mod Follows
-pub mod Tallies
