@@ -44,8 +44,8 @@ fn check_lines<E: Engine>(
 fn main(rt: HostRuntime) -> anyhow::Result<()> {
     let mut text = Vec::new(rt.alloc());
     rt.stdin().read_to_end(&mut text)?;
-    let mut engine = decider::engine();
-    let mut table = decider::table();
+    let mut engine = decider::new_engine();
+    let mut table = decider::new_table();
     let tally = check_lines(&rt, &mut engine, &mut table, text.as_slice())?;
     rt.println(Counted(tally))?;
     if tally.is_clean() {

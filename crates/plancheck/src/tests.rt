@@ -10,8 +10,8 @@ use std::test::Fail;
 
 // Whether a line is followed by these words.
 fn says(heap: Global, plan: &mut Plan, line: &[u8], words: &str) -> Result<bool, AllocError> {
-    let mut engine = decider::engine();
-    let mut table = decider::table();
+    let mut engine = decider::new_engine();
+    let mut table = decider::new_table();
     let outcome = follow(plan, &mut engine, &mut table, line);
     let said = Said {
         number: 7,
@@ -106,8 +106,8 @@ fn asked(rt: HostRuntime) -> Result<(), Fail> {
 
 // The plan after a line.
 fn after(mut plan: Plan, line: &[u8]) -> Plan {
-    let mut engine = decider::engine();
-    let mut table = decider::table();
+    let mut engine = decider::new_engine();
+    let mut table = decider::new_table();
     follow(&mut plan, &mut engine, &mut table, line);
     plan
 }
