@@ -18,8 +18,8 @@ HEAD = re.compile(r"(?m)^ *(?:(?:pub|unfoldable|abbrev|opaque|record|data|privat
 USE = re.compile(r"\buse (Rattle\.[^\s;{]+)\.\{([^}]*)\}|\buse (Rattle\.[^\s;{]+)")
 QUIET = re.compile(r'"(?:[^"\\\n]|\\.)*"|b?\'(?:\\.|[^\'\\])\'')
 OWN = None
-# What would meet another name, with the name that it gets.
-APART = {}
+# What would be spelled like a word of the library, with the name that it gets.
+APART = {"to-bits": "bits_of", "from-bits": "signed_value"}
 
 
 def files(top):

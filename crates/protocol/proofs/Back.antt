@@ -6,31 +6,31 @@ use Rattle.std.proofs.lemmas.Bool.{lt-ltb, le-ltb}
 use Rattle.std.specs.List.{flat_map, AllByRecursion as All}
 use Rattle.console.specs.declared.command.Command.{Command}
 use Rattle.console.specs.declared.command.Command.TheVariants.{Open, Add, Lift, Mute, Sound, Ask, Blame}
-use Rattle.protocol.specs.Bytes.{from_bits, two_bytes, four_bytes, taken, first, reading}
-use Rattle.protocol.specs.Writes.{to_bits, coefficient_bytes, side_bytes, bytes_of, Byte, Below, InRange, ReadsBack}
+use Rattle.protocol.specs.Bytes.{signed_value, two_bytes, four_bytes, taken, first, reading}
+use Rattle.protocol.specs.Writes.{bits_of, coefficient_bytes, side_bytes, bytes_of, Byte, Below, InRange, ReadsBack}
 use Rattle.protocol.proofs.FirstCommand.{first_told}
 use Rattle.protocol.proofs.Onward.{after, reading_next, parsed_short}
 
 -- ---- numbers
-bits_back : (h : ℕ) (z : ℤ) → Below h z → from_bits h (to_bits h z) ≡ z
+bits_back : (h : ℕ) (z : ℤ) → Below h z → signed_value h (bits_of h z) ≡ z
 bits_back h (pos n) b = rw (lt-ltb n h b)
 bits_back h (negsuc n) b = rw (le-ltb (2 * h - suc n) h (omega arith)) (omega (arith, ints))
 
-bits_below : (h : ℕ) (z : ℤ) → Below h z → to_bits h z < 2 * h
+bits_below : (h : ℕ) (z : ℤ) → Below h z → bits_of h z < 2 * h
 bits_below h (pos n) b = omega arith
 bits_below h (negsuc n) b = omega arith
 
-coefficient_back : (z : ℤ) → Below 32768 z → two_bytes (to_bits 32768 z / 256) (to_bits 32768 z % 256) ≡ z
+coefficient_back : (z : ℤ) → Below 32768 z → two_bytes (bits_of 32768 z / 256) (bits_of 32768 z % 256) ≡ z
 coefficient_back z b =
-    let n : ℕ = to_bits 32768 z in
+    let n : ℕ = bits_of 32768 z in
     let e : n / 256 * 256 + n % 256 ≡ n = omega arith in
-    ap (from_bits 32768) e ∙ bits_back 32768 z b
+    ap (signed_value 32768) e ∙ bits_back 32768 z b
 
-side_back : (z : ℤ) → Below 2147483648 z → four_bytes (to_bits 2147483648 z / 65536 / 256) (to_bits 2147483648 z / 65536 % 256) (to_bits 2147483648 z % 65536 / 256) (to_bits 2147483648 z % 65536 % 256) ≡ z
+side_back : (z : ℤ) → Below 2147483648 z → four_bytes (bits_of 2147483648 z / 65536 / 256) (bits_of 2147483648 z / 65536 % 256) (bits_of 2147483648 z % 65536 / 256) (bits_of 2147483648 z % 65536 % 256) ≡ z
 side_back z b =
-    let n : ℕ = to_bits 2147483648 z in
+    let n : ℕ = bits_of 2147483648 z in
     let e : n / 65536 / 256 * 16777216 + n / 65536 % 256 * 65536 + n % 65536 / 256 * 256 + n % 65536 % 256 ≡ n = omega arith in
-    ap (from_bits 2147483648) e ∙ bits_back 2147483648 z b
+    ap (signed_value 2147483648) e ∙ bits_back 2147483648 z b
 
 -- ---- one command
 -- the command c of n bytes, with more bytes after them

@@ -10,14 +10,14 @@ abbrev pub most_bytes : ℕ
 most_bytes = 4096
 
 -- the number that the bits n are in two's complement, where n is below 2h
-abbrev pub from_bits : ℕ → ℕ → ℤ
-from_bits h n = cond (nat_lt n h) (pos n) (pos n -ℤ pos (2 * h))
+abbrev pub signed_value : ℕ → ℕ → ℤ
+signed_value h n = cond (nat_lt n h) (pos n) (pos n -ℤ pos (2 * h))
 
 abbrev pub two_bytes : ℕ → ℕ → ℤ
-two_bytes a b = from_bits 32768 (a * 256 + b)
+two_bytes a b = signed_value 32768 (a * 256 + b)
 
 abbrev pub four_bytes : ℕ → ℕ → ℕ → ℕ → ℤ
-four_bytes a b c d = from_bits 2147483648 (a * 16777216 + b * 65536 + c * 256 + d)
+four_bytes a b c d = signed_value 2147483648 (a * 16777216 + b * 65536 + c * 256 + d)
 
 -- the number of two bytes from the place i on
 abbrev pub pair : List ℕ → ℕ → ℤ

@@ -8,19 +8,19 @@ use Rattle.rows.specs.Limits.{faders}
 use Rattle.protocol.specs.Bytes.{most_bytes, parsed}
 
 -- the two's complement of a number from -h to h - 1
-abbrev pub to_bits : ℕ → ℤ → ℕ
-to_bits h (pos n) = n
-to_bits h (negsuc n) = 2 * h - suc n
+abbrev pub bits_of : ℕ → ℤ → ℕ
+bits_of h (pos n) = n
+bits_of h (negsuc n) = 2 * h - suc n
 
 -- a number below 256 * 256 as two bytes, the higher one first
 abbrev pub high_low : ℕ → List ℕ
 high_low n = n / 256 ∷ n % 256 ∷ []
 
 abbrev pub coefficient_bytes : ℤ → List ℕ
-coefficient_bytes z = high_low (to_bits 32768 z)
+coefficient_bytes z = high_low (bits_of 32768 z)
 
 abbrev pub side_bytes : ℤ → List ℕ
-side_bytes z = high_low (to_bits 2147483648 z / 65536) ++ high_low (to_bits 2147483648 z % 65536)
+side_bytes z = high_low (bits_of 2147483648 z / 65536) ++ high_low (bits_of 2147483648 z % 65536)
 
 abbrev pub bytes_of : Command → List ℕ
 bytes_of (Open count) = 1 ∷ count ∷ []
