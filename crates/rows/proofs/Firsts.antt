@@ -1,6 +1,9 @@
 -- What a loop over the rows reads, and the first of a list that fails. Assumes nothing.
-use Rattle.std.proofs.Common.{◌≡◌, ℕ, zero, suc, ◌+◌, ◌<◌, List, [], ◌∷◌, length, get_or, take, sym, ap, ◌∙◌, subst, arith}
-use Rattle.std.specs.List.{AllByRecursion as All}
+use Rattle.std.proofs.Common.{◌≡◌, ℕ, zero, suc, ◌+◌, ◌<◌, Bool, true, false, not, List, [], ◌∷◌, map, length, get_or, take, Option, Some, None, refl, sym, ap, ◌∙◌, subst, arith}
+use Rattle.std.specs.Option.{MatchOption, is_some}
+use Rattle.std.specs.Bool.{Decides}
+use Rattle.std.proofs.lemmas.Bool.{false≢true}
+use Rattle.std.specs.List.{AllByRecursion as All, AllWithin, HoldsAt}
 use Rattle.std.proofs.lemmas.List.{get_or-map, length-map}
 use Rattle.std.proofs.ByRecursion.{All-more}
 use Rattle.rows.specs.declared.row.Row.{Row}
@@ -31,3 +34,25 @@ module _ (rows : List Row) (i : ℕ) (r : Row) (h : i < length rows) (e : r ≡ 
 
   pub all_rows_more : (P : Constraint → Type 0) → All P (take i (constraints rows)) → P (constraint r) → All P (take (i + 1) (constraints rows))
   all_rows_more P before here = All-more P (constraints rows) i (constraint r) within_constraints before (subst P (sym constraint_at) here)
+
+-- `position` over a list: the first element of which P fails, P being of what f reads off it
+module _ {X Y : Type 0} (f : X → Y) (P : Y → Type 0) where
+  pub all_from : (xs : List X) → ((k : ℕ) (d : X) → k < length xs → P (f (get_or xs k d))) → All P (map f xs)
+  all_from [] each = tt
+  all_from (x ∷ xs) each = (each 0 x (omega arith), all_from xs (λ k d l. each (suc k) d (omega arith)))
+
+  pub first_from : (xs : List X) (i : ℕ) → i < length xs → ((d : X) → P (f (get_or xs i d)) → ⊥) → ((k : ℕ) (d : X) → k < i → P (f (get_or xs k d))) → FirstWithout P (map f xs) i
+  first_from [] i l here before = absurd (omega arith)
+  first_from (x ∷ xs) zero l here before = here x
+  first_from (x ∷ xs) (suc i) l here before = (before 0 x (omega arith), first_from xs i (omega arith) here (λ k d m. before (suc k) d (omega arith)))
+
+  pub first_found : (xs : List X) (r : Option ℕ) → MatchOption r (AllWithin (λ x. P (f x)) xs 0 (length xs)) (λ i. (i < length xs) × HoldsAt (λ x. P (f x) → ⊥) xs i × AllWithin (λ x. P (f x)) xs 0 i) → MatchOption r (All P (map f xs)) (FirstWithout P (map f xs))
+  first_found xs None found = all_from xs (λ k d l. found k d (omega arith) l)
+  first_found xs (Some i) found = first_from xs i found.0 found.1 (λ k d l. found.2 k d (omega arith) l)
+
+-- an answer that is none exactly where A holds, as a test
+pub none_decides : {A : Type 0} {P : ℕ → Type 0} (r : Option ℕ) (b : Bool) → MatchOption r A P → ((i : ℕ) → P i → A → ⊥) → is_some r ≡ not b → Decides b A
+none_decides None true m f e = ((λ _. m), λ _. refl)
+none_decides None false m f e = absurd (false≢true e)
+none_decides (Some i) true m f e = absurd (false≢true (sym e))
+none_decides (Some i) false m f e = ((λ h. absurd (false≢true h)), λ a. absurd (f i m a))
