@@ -8,7 +8,7 @@ use Rattle.rows.specs.Rows.{Constraint}
 use Rattle.rows.specs.Clashes.{Weighed}
 use Rattle.engine.specs.Verdicts.{Verdict, Right}
 use Rattle.engine.specs.Interface.{View, first_refusal, refused_if, Decided, DecidedAt, Settles}
-use Rattle.engine.specs.States.{kept_answer}
+use Rattle.engine.specs.States.{said}
 use Rattle.engine.specs.Deciding.{rows_refusal, loaded, Tells, Replies, RepliesAt, Readable}
 
 -- one weight for each row
@@ -57,7 +57,7 @@ module _ (verdict : ℕ → List Constraint → Verdict) (needed held : ℕ) (v 
         by (Verdict.clash ws) c h = subst (λ (x : View). Readable (length v.rows) x.answer) (sym h) (weighed_length ws v.rows c.weighed, c.within)
         by (Verdict.fault f) p h = absurd h
 
-    decision_read : (a : Kept) → kept_answer (length v.rows) a ≡ w.answer → RepliesAt (refused_if (ltb held needed) ShortTable) (length v.rows) (verdict v.count v.rows) (Ok a)
+    decision_read : (a : Kept) → said (length v.rows) a ≡ w.answer → RepliesAt (refused_if (ltb held needed) ShortTable) (length v.rows) (verdict v.count v.rows) (Ok a)
     decision_read a e = subst (λ (o : Option Refusal). RepliesAt o (length v.rows) (verdict v.count v.rows) (Ok a)) (sym settled.0) (by (verdict v.count v.rows) settled.1)
       where
         by : (t : Verdict) → Settles t v (Ok u) w → Tells (length v.rows) t (Ok a)
@@ -65,7 +65,7 @@ module _ (verdict : ℕ → List Constraint → Verdict) (needed held : ℕ) (v 
         by (Verdict.clash ws) h = e ∙ ap (λ (x : View). x.answer) h
         by (Verdict.fault f) h = absurd h
 
-    pub decision_reply : (r : Result Kept Refusal) → MatchResult r (λ a. kept_answer (length v.rows) a ≡ w.answer) (λ _. ⊥) → RepliesAt (refused_if (ltb held needed) ShortTable) (length v.rows) (verdict v.count v.rows) r
+    pub decision_reply : (r : Result Kept Refusal) → MatchResult r (λ a. said (length v.rows) a ≡ w.answer) (λ _. ⊥) → RepliesAt (refused_if (ltb held needed) ShortTable) (length v.rows) (verdict v.count v.rows) r
     decision_reply (Ok a) e = decision_read a e
     decision_reply (Err e) h = absurd h
 

@@ -1,7 +1,16 @@
--- Each refusal's number, and the numbers that it carries. Assumes nothing.
+-- The numbers of causes and of refusals, and the numbers that a refusal carries. Assumes nothing.
 use Rattle.std.specs.Prelude.{ℕ, List, [], ◌∷◌}
+use Rattle.engine.specs.declared.fault.Cause.{Cause}
+use Rattle.engine.specs.declared.fault.Cause.TheVariants.{NumberBeyond, TableFull, FormNotTaken, WeightBeyond, Other}
 use Rattle.engine.specs.declared.refusal.Refusal.{Refusal}
 use Rattle.engine.specs.declared.refusal.Refusal.TheVariants.{BadCount, NoPlan, Full, BadKind, BadCoefficient, BadSide, NoRule, NoSuchRule, AlreadyMuted, AlreadySounding, TooLarge, Feasible, UnknownCommand, CutShort, TooLong, NoAnswer, ShortTable}
+
+abbrev pub cause_number : Cause → ℕ
+cause_number NumberBeyond = 1
+cause_number TableFull = 2
+cause_number FormNotTaken = 3
+cause_number WeightBeyond = 4
+cause_number (Other n) = n
 
 abbrev pub number : Refusal → ℕ
 number BadCount = 1
@@ -34,7 +43,7 @@ carries NoRule = []
 carries NoSuchRule = []
 carries AlreadyMuted = []
 carries AlreadySounding = []
-carries (TooLarge fault) = fault.layer ∷ fault.cause ∷ fault.index ∷ []
+carries (TooLarge fault) = fault.layer ∷ cause_number fault.cause ∷ fault.index ∷ []
 carries Feasible = []
 carries UnknownCommand = []
 carries CutShort = []

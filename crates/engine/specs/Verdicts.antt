@@ -2,6 +2,7 @@
 use Rattle.std.specs.Prelude.{◌≡◌, ℕ, ◌<◌, ◌≤◌, List, length, ℤ, pos, slice_index_or}
 use Rattle.std.specs.List.{AllByRecursion}
 use Rattle.engine.specs.declared.fault.Fault.{Fault}
+use Rattle.engine.specs.declared.fault.Cause.TheVariants.{NumberBeyond, TableFull, FormNotTaken, WeightBeyond}
 use Rattle.rows.specs.Limits.{faders, most_rows, Within, EachWithin}
 use Rattle.rows.specs.Rows.{Constraint, MeetsAll}
 use Rattle.rows.specs.Presets.{WellFormed}
@@ -34,13 +35,13 @@ Right count rows (fault f) = Unit {0}
 
 -- the faults of this maker's engines, by what went wrong
 abbrev pub number_beyond : ℕ → Fault
-number_beyond fader = record { layer = 0; cause = 1; index = fader }
+number_beyond fader = record { layer = 0; cause = NumberBeyond; index = fader }
 
 abbrev pub table_full : ℕ → Fault
-table_full fader = record { layer = 0; cause = 2; index = fader }
+table_full fader = record { layer = 0; cause = TableFull; index = fader }
 
 abbrev pub form_not_taken : ℕ → Fault
-form_not_taken place = record { layer = 0; cause = 3; index = place }
+form_not_taken place = record { layer = 0; cause = FormNotTaken; index = place }
 
 abbrev pub weight_beyond : ℕ → Fault
-weight_beyond place = record { layer = 0; cause = 4; index = place }
+weight_beyond place = record { layer = 0; cause = WeightBeyond; index = place }

@@ -1,14 +1,15 @@
-// The last answer of an engine. Assumes nothing.
+// An answer to a list of rows. Assumes nothing.
 ghost use Rattle.std.specs.Prelude.{◌≡◌};
 ghost use Rattle.engine.specs.States.{holds_clash};
 
 use rows::preset::Preset;
 use rows::weights::Weights;
 
-#[derive(Clone, Copy)]
+#[derive(Clone, Copy, PartialEq, Eq, Debug)]
 pub enum Answer {
-    Nothing,
+    // levels that meet the rows
     Preset(Preset),
+    // weights that are a clash of the rows
     Clash(Weights),
 }
 
@@ -16,9 +17,6 @@ impl Answer {
     pub fn is_clash(&self) -> bool
         ensures { result ≡ holds_clash self.now }
     {
-        match self {
-            Answer::Clash(_) => true,
-            Answer::Preset(_) | Answer::Nothing => false,
-        }
+        matches!(self, Answer::Clash(_))
     }
 }

@@ -3,7 +3,7 @@ ghost use Rattle.std.specs.Prelude.{◌≡◌, ◌≤◌, length, MatchResult};
 ghost use Rattle.engine.specs.declared.answer.Answer.TheVariants.{Preset as KeptPreset, Clash as KeptClash};
 ghost use Rattle.rows.specs.Limits.{most_rows};
 ghost use Rattle.rows.specs.Rows.{constraints};
-ghost use Rattle.engine.specs.States.{kept_answer};
+ghost use Rattle.engine.specs.States.{said};
 ghost use Rattle.engine.specs.Verdicts.{Valid};
 ghost use Rattle.engine.specs.Deciding.{Loaded, Levels, Loads, Readable, Answers, Replies};
 
@@ -29,7 +29,7 @@ fn load<E: Engine>(engine: &mut E, count: u8, rows: &[Row]) -> Result<(), Refusa
 // The levels that the engine holds, over their denominator.
 fn read_preset<E: Engine>(engine: &E, denominator: u32) -> Result<Preset, Refusal>
     requires { Levels denominator (E.Engine.view engine.now).answer }
-    ensures { MatchResult result (λ p. kept_answer 0 (KeptPreset p) ≡ (E.Engine.view engine.now).answer) (λ _. ⊥) }
+    ensures { MatchResult result (λ p. said 0 (KeptPreset p) ≡ (E.Engine.view engine.now).answer) (λ _. ⊥) }
 {
     let mut numerators = [0; FADERS];
     for k in 0..FADERS {
@@ -46,7 +46,7 @@ fn read_weights<E: Engine>(engine: &E, rows: usize) -> Result<Weights, Refusal>
     requires few { rows ≤ most_rows }
     requires held { length (E.Engine.view engine.now).rows ≡ rows }
     requires loads { Loads rows (E.Engine.view engine.now).answer }
-    ensures { MatchResult result (λ w. kept_answer rows (KeptClash w) ≡ (E.Engine.view engine.now).answer) (λ _. ⊥) }
+    ensures { MatchResult result (λ w. said rows (KeptClash w) ≡ (E.Engine.view engine.now).answer) (λ _. ⊥) }
 {
     let mut values = [0; ROWS];
     for i in 0..rows {
@@ -60,11 +60,11 @@ fn read<E: Engine>(engine: &E, rows: usize) -> Result<Answer, Refusal>
     requires few { rows ≤ most_rows }
     requires held { length (E.Engine.view engine.now).rows ≡ rows }
     requires answer { Readable rows (E.Engine.view engine.now).answer }
-    ensures { MatchResult result (λ a. kept_answer rows a ≡ (E.Engine.view engine.now).answer) (λ _. ⊥) }
+    ensures { MatchResult result (λ a. said rows a ≡ (E.Engine.view engine.now).answer) (λ _. ⊥) }
 {
     match engine.denominator() {
-        Ok(denominator) => Ok(Answer::Preset(read_preset(engine, denominator)?)),
-        Err(_) => Ok(Answer::Clash(read_weights(engine, rows)?)),
+        Ok(denominator) => read_preset(engine, denominator).map(Answer::Preset),
+        Err(_) => read_weights(engine, rows).map(Answer::Clash),
     }
 }
 

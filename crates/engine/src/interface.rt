@@ -52,8 +52,6 @@ pub trait Engine {
 
 // States of any engine that its verdict, where it is no fault, is a clash exactly when no levels meet the rows, and otherwise a preset
 // that meets them; it computes nothing.
-pub fn decides_exactly<E: Engine>(_engine: &E) -> u8
+pub fn decides_exactly<E: Engine>(_engine: &E)
     ensures { DecidesExactly E.Engine.verdict }
-{
-    0
-}
+{}

@@ -14,7 +14,7 @@ pub mod states;
 
 pub use answer::Answer;
 pub use deciding::{decide_held, decide_rows};
-pub use fault::Fault;
+pub use fault::{Cause, Fault};
 pub use interface::Engine;
 pub use refusal::Refusal;
 pub use state::State;

@@ -1,19 +1,33 @@
-// Each refusal's number, and the numbers that it carries. Assumes nothing.
+// The numbers of refusals and of causes. Assumes nothing.
 ghost use Rattle.std.specs.Prelude.{◌≡◌};
-ghost use Rattle.engine.specs.Refusals.{number as number_of};
+ghost use Rattle.engine.specs.Refusals.{cause_number, number as number_of};
 
-use crate::fault::Fault;
+use crate::fault::{Cause, Fault};
 use crate::refusal::Refusal;
 
 impl Fault {
     // A fault that arises here: its layer is 0.
-    pub fn new(cause: u8, index: u8) -> Fault
+    pub fn new(cause: Cause, index: u8) -> Fault
         ensures { result ≡ record { layer = 0; cause = cause; index = index } }
     {
         Fault {
             layer: 0,
             cause,
             index,
+        }
+    }
+}
+
+impl Cause {
+    pub fn number(self) -> u8
+        ensures { result ≡ cause_number self }
+    {
+        match self {
+            Cause::NumberBeyond => 1,
+            Cause::TableFull => 2,
+            Cause::FormNotTaken => 3,
+            Cause::WeightBeyond => 4,
+            Cause::Other(number) => number,
         }
     }
 }

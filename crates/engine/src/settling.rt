@@ -28,11 +28,11 @@ impl State {
     {
         match found {
             Ok(answer) => {
-                self.answer = answer;
+                self.answer = Some(answer);
                 Ok(())
             }
             Err(fault) => {
-                self.answer = Answer::Nothing;
+                self.answer = None;
                 Err(Refusal::TooLarge(fault))
             }
         }

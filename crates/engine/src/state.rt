@@ -14,7 +14,8 @@ pub struct State {
     // the first `len` of them are the list
     pub rows: [Row; ROWS],
     pub len: u8,
-    pub answer: Answer,
+    // none before a decision, and after one that was refused as too large
+    pub answer: Option<Answer>,
     ghost few: { count ≤ faders },
     ghost short: { len ≤ most_rows },
     ghost places: { length rows ≡ most_rows },

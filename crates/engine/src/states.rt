@@ -18,7 +18,7 @@ impl State {
             count: 0,
             rows: [Row::zero(); ROWS],
             len: 0,
-            answer: Answer::Nothing,
+            answer: None,
         }
     }
 
@@ -30,7 +30,7 @@ impl State {
         }
         self.count = count;
         self.len = 0;
-        self.answer = Answer::Nothing;
+        self.answer = None;
         Ok(())
     }
 
@@ -48,7 +48,7 @@ impl State {
         }
         self.rows[self.len as usize] = *row;
         self.len += 1;
-        self.answer = Answer::Nothing;
+        self.answer = None;
         Ok(())
     }
 
@@ -56,7 +56,7 @@ impl State {
         ensures { result ≡ numerator_reply fader (state_view self.now).answer }
     {
         match &self.answer {
-            Answer::Preset(preset) if (fader as usize) < FADERS => Ok(
+            Some(Answer::Preset(preset)) if (fader as usize) < FADERS => Ok(
                 preset.numerators[fader as usize],
             ),
             _ => Err(Refusal::NoAnswer),
@@ -67,7 +67,7 @@ impl State {
         ensures { result ≡ denominator_reply (state_view self.now).answer }
     {
         match &self.answer {
-            Answer::Preset(preset) => Ok(preset.denominator),
+            Some(Answer::Preset(preset)) => Ok(preset.denominator),
             _ => Err(Refusal::NoAnswer),
         }
     }
@@ -76,14 +76,8 @@ impl State {
         ensures { result ≡ weight_reply row (state_view self.now) }
     {
         match &self.answer {
-            Answer::Clash(weights) => {
-                if row < self.len {
-                    Ok(weights.values[row as usize])
-                } else {
-                    Err(Refusal::NoAnswer)
-                }
-            }
-            Answer::Nothing | Answer::Preset(_) => Err(Refusal::NoAnswer),
+            Some(Answer::Clash(weights)) if row < self.len => Ok(weights.values[row as usize]),
+            _ => Err(Refusal::NoAnswer),
         }
     }
 }

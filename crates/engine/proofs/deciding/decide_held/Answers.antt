@@ -1,5 +1,5 @@
 use Rattle.std.proofs.Common.{◌≡◌, ℕ, length, sym, ap, ◌∙◌, subst, arith, MatchResult}
-use Rattle.engine.specs.States.{kept_answer}
+use Rattle.engine.specs.States.{said}
 use Rattle.engine.specs.Deciding.{Readable}
 use Rattle.engine.proofs.Replying.{decision_rows, decision_readable, decision_reply}
 use Rattle.engine.proofs.deciding.decide_held.Goals as goal
@@ -24,4 +24,4 @@ returns g c =
     let held = length c.args.table.now in
     let d = c.in_ok-decide.ensures in
     decision_reply g.E.Engine.verdict g.E.Engine.cells held v w c.requires.valid.some tt d c.read.result
-    (subst (λ (k : ℕ). MatchResult c.read.result (λ a. kept_answer k a ≡ w.answer) (λ _. ⊥)) (sym c.requires.held) c.read.ensures)
+    (subst (λ (k : ℕ). MatchResult c.read.result (λ a. said k a ≡ w.answer) (λ _. ⊥)) (sym c.requires.held) c.read.ensures)
