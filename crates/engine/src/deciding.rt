@@ -32,8 +32,8 @@ fn read_preset<E: Engine>(engine: &E, denominator: u32) -> Result<Preset, Refusa
     ensures { MatchResult result (λ p. said 0 (KeptPreset p) ≡ (E.Engine.view engine.now).answer) (λ _. ⊥) }
 {
     let mut numerators = [0; FADERS];
-    for k in 0..FADERS {
-        numerators[k] = engine.numerator(k as u8)?;
+    for (k, numerator) in numerators.iter_mut().enumerate() {
+        *numerator = engine.numerator(k as u8)?;
     }
     Ok(Preset {
         numerators,

@@ -11,6 +11,7 @@ pub mod refusal;
 pub mod settling;
 pub mod state;
 pub mod states;
+pub mod working;
 
 pub use answer::Answer;
 pub use deciding::{decide_held, decide_rows};
@@ -18,3 +19,4 @@ pub use fault::{Cause, Fault};
 pub use interface::Engine;
 pub use refusal::Refusal;
 pub use state::State;
+pub use working::{Working, WorkingEngine};

@@ -10,13 +10,13 @@ pub loop-k-preserved : goal.loop-k-preserved
 loop-k-preserved g c =
     let l = c.loop-k in
     let a = (g.E.Engine.view c.args.engine.now).answer in
-    let z = c.in_ok-numerators.field-0 in
+    let z = c.in_ok-numerator.field-0 in
     let fz : SFits w32 z = search rules in
     let h : l.k < faders = c.loop-k-test.true in
-    let read = ok_same z (get_or (numerators_in a) l.k (pos 0)) (c.in_ok-numerators.ensures ∙ level_read c.args.denominator a l.k c.requires h) in
+    let read = ok_same z (get_or (numerators_in a) l.k (pos 0)) (c.in_ok-numerator.ensures ∙ level_read c.args.denominator a l.k c.requires h) in
     let ez = to_z-of_z w32 z fz in (
-      length-set l.numerators l.k _ ∙ l.invariant.0,
-      front_more l.numerators (numerators_in a) l.k _ (omega (arith, l.invariant.0)) (omega (arith, levels_places c.args.denominator a c.requires)) l.invariant.1 (ez ∙ read),
+      length-set l.numerator-items l.k _ ∙ l.invariant.0,
+      front_more l.numerator-items (numerators_in a) l.k _ (omega (arith, l.invariant.0)) (omega (arith, levels_places c.args.denominator a c.requires)) l.invariant.1 (ez ∙ read),
     )
 
 -- all the numerators are read
@@ -29,7 +29,7 @@ invariant_of-result g c =
     let l = c.loop-k in
     let a = (g.E.Engine.view c.args.engine.now).answer in
     let d = c.args.denominator in
-    let e = all_read l.numerators (numerators_in a) l.k c.loop-k-test.false l.invariant.0 (levels_places d a c.requires) l.invariant.1 in
+    let e = all_read l.numerator-items (numerators_in a) l.k c.loop-k-test.false l.invariant.0 (levels_places d a c.requires) l.invariant.1 in
     record {
       places = l.invariant.0;
       within = subst EachWithin (sym e) (levels_within d a c.requires);
@@ -42,5 +42,5 @@ returns g c =
     let l = c.loop-k in
     let a = (g.E.Engine.view c.args.engine.now).answer in
     let d = c.args.denominator in
-    let e = all_read l.numerators (numerators_in a) l.k c.loop-k-test.false l.invariant.0 (levels_places d a c.requires) l.invariant.1 in
+    let e = all_read l.numerator-items (numerators_in a) l.k c.loop-k-test.false l.invariant.0 (levels_places d a c.requires) l.invariant.1 in
     ap (λ (ns : List ℤ). Answer.preset ns d) e ∙ levels_whole d a c.requires
