@@ -49,8 +49,8 @@ fn read_weights<E: Engine>(engine: &E, rows: usize) -> Result<Weights, Refusal>
     ensures { MatchResult result (λ w. said rows (KeptClash w) ≡ (E.Engine.view engine.now).answer) (λ _. ⊥) }
 {
     let mut values = [0; ROWS];
-    for i in 0..rows {
-        values[i] = engine.weight(i as u8)?;
+    for (i, value) in values[..rows].iter_mut().enumerate() {
+        *value = engine.weight(i as u8)?;
     }
     Ok(Weights { values })
 }
