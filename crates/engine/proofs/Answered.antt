@@ -23,7 +23,7 @@ module _ {U : Type 0} (v w : View) where
 
 -- a decision that began, by a state s and the rows that it holds
 pub decides : {U : Type 0} (verdict : ℕ → List Constraint → Verdict) (needed held : ℕ) (s : State) (found : Result Kept Fault) (r : Result U Refusal) (w : View)
-    → decide_refusal needed held (state_view s) ≡ None → Says s.len (verdict s.count (state_rows s)) found → Settled found (state_view s) r w → Decided verdict needed held (state_view s) r w
+    → decide_refusal needed held (state_view s) ≡ None → Says s.rows.len (verdict s.count (state_rows s)) found → Settled found (state_view s) r w → Decided verdict needed held (state_view s) r w
 decides verdict needed held s found r w began says done =
     let v = state_view s in
     subst (λ (o : Option Refusal). DecidedAt o (verdict s.count (state_rows s)) v r w) (sym began)

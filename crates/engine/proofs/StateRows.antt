@@ -6,16 +6,17 @@ use Rattle.rows.specs.declared.row.Row.{Row}
 use Rattle.engine.specs.declared.state.State.{State}
 use Rattle.rows.specs.Rows.{Constraint, constraint, constraints, first_unused}
 use Rattle.rows.specs.Limits.{most_rows}
+use Rattle.rows.specs.Lists.{items}
 use Rattle.engine.specs.Interface.{View, Answer, answered, first_refusal, refused_if, unused_refusal, take_refusal, weight_reply}
 use Rattle.engine.specs.declared.refusal.Refusal.TheVariants.{NoPlan, Full, NoAnswer}
 use Rattle.engine.specs.States.{state_rows}
 
-pub length_state_rows : (s : State) → length (state_rows s) ≡ s.len
-length_state_rows s = length-map (take s.len s.rows) constraint ∙ length-take-le s.len s.rows (omega (arith, s.short, s.places))
+pub length_state_rows : (s : State) → length (state_rows s) ≡ s.rows.len
+length_state_rows s = length-map (items s.rows) constraint ∙ length-take-le s.rows.len s.rows.rows (omega (arith, s.rows.short, s.rows.places))
 
 -- one row more at the end
-pub constraints_more : (rows : List Row) (n : ℕ) (r : Row) → n < length rows → constraints (take (n + 1) (set rows n r)) ≡ constraints (take n rows) ++ constraint r ∷ []
-constraints_more rows n r h = ap constraints (take_more_set rows n r h) ∙ map-append constraint (take n rows) (r ∷ [])
+pub constraints_more : (before after : List Row) (r : Row) → after ≡ before ++ r ∷ [] → constraints after ≡ constraints before ++ constraint r ∷ []
+constraints_more before after r e = ap constraints e ∙ map-append constraint before (r ∷ [])
 
 -- the refusals of a started engine that has room
 pub take_refusal_last : (row : Constraint) (v : View) → 0 < v.count → length v.rows < most_rows → take_refusal row v ≡ unused_refusal (first_unused v.count 0 row.coefficients)

@@ -6,12 +6,13 @@ use Rattle.engine.specs.declared.fault.Fault.{Fault}
 use Rattle.engine.specs.declared.refusal.Refusal.{Refusal}
 use Rattle.engine.specs.declared.refusal.Refusal.TheVariants.{TooLarge}
 use Rattle.engine.specs.declared.state.State.{State}
+use Rattle.rows.specs.Lists.{items}
 use Rattle.rows.specs.Rows.{Constraint, constraints}
 use Rattle.engine.specs.Verdicts.{Verdict}
 use Rattle.engine.specs.Interface.{Answer, View, Does, answered}
 
 abbrev pub state_rows : State → List Constraint
-state_rows s = constraints (take s.len s.rows)
+state_rows s = constraints (items s.rows)
 
 -- the answer to a list of so many rows
 abbrev pub said : ℕ → Kept → Answer
@@ -28,7 +29,7 @@ holds_clash (Preset p) = false
 holds_clash (Clash w) = true
 
 abbrev pub state_view : State → View
-state_view s = record { count = s.count; rows = state_rows s; answer = kept_answer s.len s.answer }
+state_view s = record { count = s.count; rows = state_rows s; answer = kept_answer s.rows.len s.answer }
 
 -- a verdict on so many rows, as an answer or as a fault
 abbrev pub Says : ℕ → Verdict → Result Kept Fault → Type 0

@@ -1,5 +1,9 @@
 // Why a call is refused. Assumes nothing.
+ghost use Rattle.std.specs.Prelude.{◌≡◌};
+ghost use Rattle.engine.specs.declared.refusal.Refusal.TheVariants.{BadKind as IsBadKind};
+
 use crate::fault::Fault;
+use rows::kind::UnknownKind;
 
 // One enum for engines and for the calls above them; `number` gives each case its number.
 #[derive(Clone, Copy, PartialEq, Eq, Debug)]
@@ -38,4 +42,12 @@ pub enum Refusal {
     NoAnswer,
     // the table that a decision works in is too short
     ShortTable,
+}
+
+impl From<UnknownKind> for Refusal {
+    ghost from_gives = { λ _ r. r ≡ IsBadKind };
+
+    fn from(_unknown: UnknownKind) -> Refusal {
+        Refusal::BadKind
+    }
 }

@@ -8,6 +8,7 @@ use crate::answer::Answer;
 use crate::refusal::Refusal;
 use crate::state::State;
 use rows::bounds::{FADERS, ROWS};
+use rows::list::RowList;
 use rows::row::Row;
 
 impl State {
@@ -16,8 +17,7 @@ impl State {
     {
         State {
             count: 0,
-            rows: [Row::zero(); ROWS],
-            len: 0,
+            rows: RowList::new(),
             answer: None,
         }
     }
@@ -29,7 +29,7 @@ impl State {
             return Err(Refusal::BadCount);
         }
         self.count = count;
-        self.len = 0;
+        self.rows.clear();
         self.answer = None;
         Ok(())
     }
@@ -40,14 +40,13 @@ impl State {
         if self.count == 0 {
             return Err(Refusal::NoPlan);
         }
-        if self.len as usize >= ROWS {
+        if self.rows.len >= ROWS {
             return Err(Refusal::Full);
         }
         if let Some(k) = row.first_unused(self.count) {
             return Err(Refusal::BadCoefficient(k));
         }
-        self.rows[self.len as usize] = *row;
-        self.len += 1;
+        self.rows.push(*row);
         self.answer = None;
         Ok(())
     }
@@ -76,7 +75,9 @@ impl State {
         ensures { result ≡ weight_reply row (state_view self.now) }
     {
         match &self.answer {
-            Some(Answer::Clash(weights)) if row < self.len => Ok(weights.values[row as usize]),
+            Some(Answer::Clash(weights)) if (row as usize) < self.rows.len => Ok(
+                weights.values[row as usize],
+            ),
             _ => Err(Refusal::NoAnswer),
         }
     }

@@ -31,7 +31,7 @@ pub trait Working {
     fn work_out(&mut self, state: &State, table: &mut [Self::Cell]) -> Result<Answer, Fault>
         requires started { 0 < state.now.count }
         requires room { cells ≤ length table.old }
-        ensures { Says state.now.len (verdict state.now.count (state_rows state.now)) result };
+        ensures { Says state.now.rows.len (verdict state.now.count (state_rows state.now)) result };
 
     // A preset is well formed and meets every row, and a clash is one.
     ghost sound: { (count : ℕ) (rows : List Constraint) → Valid count rows → Right count rows (verdict count rows) };

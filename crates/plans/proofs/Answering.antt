@@ -9,7 +9,8 @@ use Rattle.rows.specs.Limits.{most_rows}
 use Rattle.rows.specs.Rows.{Constraint, constraint}
 use Rattle.engine.specs.Interface.{first_refusal, refused_if}
 use Rattle.plans.specs.Plans.{PlanView}
-use Rattle.plans.specs.Edits.{kind_of, kind_refusal, row_refusal, closed_refusal, add_refusal, Makes}
+use Rattle.rows.specs.Kinds.{kind_of}
+use Rattle.plans.specs.Edits.{kind_refusal, row_refusal, closed_refusal, add_refusal, Makes}
 
 -- a refusal that does not fit
 pub passed : (b : Bool) (e : Refusal) (other : Option Refusal) → b ≡ false → first_refusal (refused_if b e) other ≡ other

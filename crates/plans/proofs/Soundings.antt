@@ -1,6 +1,6 @@
 -- The rows of the rules that sound: one rule more, sounding or muted. Assumes nothing.
-use Rattle.std.proofs.Common.{◌≡◌, ℕ, ◌+◌, ◌<◌, Bool, true, false, List, [], ◌∷◌, ◌++◌, length, get_or, take, set, sym, refl, ap, ◌∙◌, append-nil}
-use Rattle.std.proofs.lemmas.List.{take_more, take_more_set, map-append}
+use Rattle.std.proofs.Common.{◌≡◌, ℕ, ◌+◌, ◌<◌, Bool, true, false, List, [], ◌∷◌, ◌++◌, length, get_or, take, sym, refl, ap, ◌∙◌, append-nil}
+use Rattle.std.proofs.lemmas.List.{take_more, map-append}
 use Rattle.rows.specs.declared.row.Row.{Row}
 use Rattle.rows.specs.Rows.{Constraint, constraint, constraints}
 use Rattle.plans.specs.declared.rule.Rule.{Rule}
@@ -22,15 +22,15 @@ one_more rules i d h =
     ∙ ap sounding_rows (map-append rule_view (take i rules) (get_or rules i d ∷ []))
     ∙ sounding_append (rule_views (take i rules)) (rule_view (get_or rules i d) ∷ [])
 
--- a rule that sounds is written behind the others
-pub taken_on : (rules : List Rule) (rows : List Row) (i n : ℕ) (d : Rule) → i < length rules → n < length rows → (get_or rules i d).sounds ≡ true → constraints (take n rows) ≡ sounding_rows (rule_views (take i rules)) → constraints (take (n + 1) (set rows n (get_or rules i d).row)) ≡ sounding_rows (rule_views (take (i + 1) rules))
-taken_on rules rows i n d h k sounds so =
-    ap constraints (take_more_set rows n (get_or rules i d).row k)
-    ∙ map-append constraint (take n rows) ((get_or rules i d).row ∷ [])
+-- a rule that sounds is appended to the others
+pub taken_on : (rules : List Rule) (before after : List Row) (i : ℕ) (d : Rule) → i < length rules → (get_or rules i d).sounds ≡ true → constraints before ≡ sounding_rows (rule_views (take i rules)) → after ≡ before ++ (get_or rules i d).row ∷ [] → constraints after ≡ sounding_rows (rule_views (take (i + 1) rules))
+taken_on rules before after i d h sounds so e =
+    ap constraints e
+    ∙ map-append constraint before ((get_or rules i d).row ∷ [])
     ∙ ap (λ (cs : List Constraint). cs ++ constraint (get_or rules i d).row ∷ []) so
     ∙ sym (one_more rules i d h ∙ rw sounds refl)
 
 -- a muted rule is passed over
-pub passed_over : (rules : List Rule) (rows : List Row) (i n : ℕ) (d : Rule) → i < length rules → (get_or rules i d).sounds ≡ false → constraints (take n rows) ≡ sounding_rows (rule_views (take i rules)) → constraints (take n rows) ≡ sounding_rows (rule_views (take (i + 1) rules))
-passed_over rules rows i n d h mute so =
+pub passed_over : (rules : List Rule) (rows : List Row) (i : ℕ) (d : Rule) → i < length rules → (get_or rules i d).sounds ≡ false → constraints rows ≡ sounding_rows (rule_views (take i rules)) → constraints rows ≡ sounding_rows (rule_views (take (i + 1) rules))
+passed_over rules rows i d h mute so =
     so ∙ sym (one_more rules i d h ∙ rw mute (append-nil (sounding_rows (rule_views (take i rules)))))

@@ -3,10 +3,10 @@
 use Rattle.std.specs.Prelude.{◌≡◌, ℕ, zero, suc, ◌+◌, Bool, true, false, cond, ◌||◌, List, [], ◌∷◌, ◌++◌, length, ℤ, Some, None, Ok, Err, Option, Result, ◌==◌, nat_le, nat_lt, unsigned_abs}
 use Rattle.std.specs.Bool.{beq}
 use Rattle.rows.specs.declared.kind.Kind.{Kind}
-use Rattle.rows.specs.declared.kind.Kind.TheVariants.{AtMost, Below, Equal}
 use Rattle.rows.specs.declared.row.Row.{Row}
 use Rattle.engine.specs.declared.refusal.Refusal.{Refusal}
 use Rattle.engine.specs.declared.refusal.Refusal.TheVariants.{NoPlan, Full, BadKind, BadSide, NoRule, NoSuchRule, AlreadyMuted, AlreadySounding}
+use Rattle.rows.specs.Kinds.{kind_of}
 use Rattle.rows.specs.Limits.{most_rows}
 use Rattle.rows.specs.Rows.{Constraint, constraint, unused}
 use Rattle.engine.specs.Interface.{Does, first_refusal, refused_if, count_refusal, unused_refusal}
@@ -24,13 +24,6 @@ after_open n = record { count = n; rules = [] }
 
 abbrev pub Opened : {U : Type 0} → ℕ → PlanView → Result U Refusal → PlanView → Type 0
 Opened n v r w = Does (count_refusal n) (after_open n) v r w
-
--- the kinds by their numbers
-abbrev pub kind_of : ℕ → Option Kind
-kind_of zero = Some AtMost
-kind_of (suc zero) = Some Below
-kind_of (suc (suc zero)) = Some Equal
-kind_of (suc (suc (suc n))) = None
 
 abbrev pub kind_refusal : Option Kind → Option Refusal
 kind_refusal None = Some BadKind

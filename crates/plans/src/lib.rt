@@ -1,8 +1,6 @@
 // The plan of a desk and the calls that edit it. It sees what rows and refusals are, and no engine's working.
 #![tactic(auto)]
 
-pub mod kinds;
-pub mod list;
 pub mod plan;
 pub mod plans;
 pub mod ranges;
@@ -12,7 +10,7 @@ pub mod sounding;
 #[cfg(test)]
 mod tests;
 
-pub use list::RowList;
 pub use plan::Plan;
 pub use ranges::{COEFFICIENT, SIDE};
+pub use rows::RowList;
 pub use rule::Rule;

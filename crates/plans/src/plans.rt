@@ -3,12 +3,12 @@ ghost use Rattle.std.specs.Prelude.{◌≡◌, true, false};
 ghost use Rattle.plans.specs.Plans.{plan_view, no_plan};
 ghost use Rattle.plans.specs.Edits.{Opened, Added, Lifted, Marked, already as already_at};
 
-use crate::kinds::kind_of;
 use crate::plan::Plan;
 use crate::row_of_rule::checked_row;
 use crate::rule::Rule;
 use engine::refusal::Refusal;
 use rows::bounds::{FADERS, ROWS};
+use rows::kind::Kind;
 use rows::row::Row;
 
 // The rule has the mark that is wanted.
@@ -60,9 +60,7 @@ impl Plan {
         if self.len as usize >= ROWS {
             return Err(Refusal::Full);
         }
-        let Some(kind) = kind_of(kind) else {
-            return Err(Refusal::BadKind);
-        };
+        let kind = Kind::try_from(kind)?;
         let row = checked_row(self.count, kind, coefficients, side)?;
         self.rules[self.len as usize] = Rule { row, sounds: true };
         self.len += 1;

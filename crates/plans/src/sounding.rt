@@ -1,28 +1,33 @@
-// The rows of the rules that sound, in their order. Assumes nothing.
-ghost use Rattle.std.specs.Prelude.{◌≡◌, take};
+// The rules of a plan, and the rows of those that sound, in their order. Assumes nothing.
+ghost use Rattle.std.specs.Prelude.{◌≡◌, length, take};
+ghost use Rattle.rows.specs.Lists.{items};
 ghost use Rattle.rows.specs.Rows.{constraints};
 ghost use Rattle.plans.specs.Plans.{plan_view};
 ghost use Rattle.plans.specs.Sounding.{sounding_rows};
 
-use crate::list::RowList;
 use crate::plan::Plan;
-use rows::bounds::ROWS;
-use rows::row::Row;
+use crate::rule::Rule;
+use rows::RowList;
 
 impl Plan {
+    // The rules, by their numbers.
+    pub fn rules(&self) -> &[Rule]
+        ensures value { result.now ≡ take self.now.len self.now.rules }
+        ensures count { length result.now ≡ self.now.len }
+    {
+        &self.rules[..self.len as usize]
+    }
+
     // What an engine is given, and what an answer is held against.
     pub fn sounding(&self) -> RowList
-        ensures { constraints (take result.len result.rows) ≡ sounding_rows (plan_view self.now).rules }
+        ensures { constraints (items result) ≡ sounding_rows (plan_view self.now).rules }
     {
-        let mut rows = [Row::zero(); ROWS];
-        let mut len = 0;
-        for i in 0..self.len as usize {
-            let rule = self.rules[i];
+        let mut rows = RowList::new();
+        for rule in self.rules() {
             if rule.sounds {
-                rows[len] = rule.row;
-                len += 1;
+                rows.push(rule.row);
             }
         }
-        RowList { rows, len }
+        rows
     }
 }

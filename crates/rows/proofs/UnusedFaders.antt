@@ -19,8 +19,8 @@ used_push count [] r used new (ℕ.suc i) k q = refl
 used_push count (x ∷ rows) r used new ℕ.zero k q = used 0 k q
 used_push count (x ∷ rows) r used new (ℕ.suc i) k q = used_push count rows r (λ j. used (ℕ.suc j)) new i k q
 
-pub used_more : (count : ℕ) (rows : List Row) (n : ℕ) (r : Row) → n < length rows → UsedBelow count (take n rows) → ((k : ℕ) → count ≤ k → get_or r.coefficients k (pos 0) ≡ pos 0) → UsedBelow count (take (n + 1) (set rows n r))
-used_more count rows n r h used new = subst (UsedBelow count) (sym (take_more_set rows n r h)) (used_push count (take n rows) r used new)
+pub used_more : (count : ℕ) (before after : List Row) (r : Row) → UsedBelow count before → ((k : ℕ) → count ≤ k → get_or r.coefficients k (pos 0) ≡ pos 0) → after ≡ before ++ r ∷ [] → UsedBelow count after
+used_more count before after r used new e = subst (UsedBelow count) (sym e) (used_push count before r used new)
 
 some_none : {k : ℕ} → ◌≡◌ {A = Option ℕ} (Some k) None → ⊥
 some_none e = let z : ◌≡◌ {A = ℕ} 0 1 = cc in omega arith

@@ -2,6 +2,7 @@ pub mod Kinds
 pub mod Limits
 pub mod Firsts
 pub mod Rows
+pub mod Lists
 pub mod Presets
 pub mod Clashes
 pub mod Parts

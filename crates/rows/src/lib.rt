@@ -1,6 +1,7 @@
 // What rows, presets and clashes are, checkers of both kinds of answer, and the arithmetic of carried rows. It sees the crate `integers`.
 #![tactic(auto)]
 
+pub mod appending;
 pub mod bounds;
 pub mod carried;
 pub mod clashes;
@@ -9,6 +10,7 @@ pub mod factor;
 pub mod fader;
 pub mod flaw;
 pub mod kind;
+pub mod list;
 pub mod lowest;
 pub mod making;
 pub mod preset;
@@ -28,6 +30,7 @@ pub use factor::Factor;
 pub use fader::Fader;
 pub use flaw::ClashFlaw;
 pub use kind::{Kind, UnknownKind};
+pub use list::RowList;
 pub use preset::Preset;
 pub use row::Row;
 pub use weights::Weights;

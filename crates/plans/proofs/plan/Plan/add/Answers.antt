@@ -11,7 +11,8 @@ use Rattle.engine.specs.Interface.{first_refusal, refused_if}
 use Rattle.plans.specs.declared.rule.Rule.{Rule}
 use Rattle.plans.specs.Rules.{RuleView, rule_view}
 use Rattle.plans.specs.Plans.{plan_view}
-use Rattle.plans.specs.Edits.{kind_of, kind_refusal, row_refusal, new_rule}
+use Rattle.rows.specs.Kinds.{kind_of}
+use Rattle.plans.specs.Edits.{kind_refusal, row_refusal, new_rule}
 use Rattle.plans.proofs.PlanRules.{length_rules, rules_more, used_more}
 use Rattle.plans.proofs.Offending.{row_used}
 use Rattle.plans.proofs.Answering.{past_closed, at_kind, refused_at, made_at}
@@ -27,12 +28,13 @@ returns-then-self-ge-ROWS c =
     ∙ ap (λ (b : Bool). first_refusal (refused_if b Full) last) (le-leb most_rows (length v.rules) (omega arith)) in
     rw e (refl, refl)
 
-pub returns-in_default : goal.returns-in_default
-returns-in_default c =
+pub returns-in_err-kind : goal.returns-in_err-kind
+returns-in_err-kind c =
     let s = c.args.self.now in
     let n = length_rules s in
-    let e = at_kind c.args.kind c.args.coefficients.now c.args.side (plan_view s) None c.if-self-eq0.false (omega arith) (sym c.in_default.is ∙ c.kind_of.ensures) in
-    rw e (refl, refl)
+    let e = at_kind c.args.kind c.args.coefficients.now c.args.side (plan_view s) None c.if-self-eq0.false (omega arith) c.in_err-kind.ensures in
+    let p = err_from_is_err_and c.from_residual.result c.from_residual.ensures.1 in
+    rw (p.1, p.2, e) (refl, refl)
 
 pub returns-in_err-row : goal.returns-in_err-row
 returns-in_err-row c =
@@ -40,10 +42,10 @@ returns-in_err-row c =
     let cs = c.args.coefficients.now in
     let side = c.args.side in
     let n = length_rules s in
-    let k = c.in-Some.kind in
-    let e = at_kind c.args.kind cs side (plan_view s) (Some k) c.if-self-eq0.false (omega arith) (sym c.in-Some.is ∙ c.kind_of.ensures)
+    let k = c.in_ok-kind.kind in
+    let e = at_kind c.args.kind cs side (plan_view s) (Some k) c.if-self-eq0.false (omega arith) c.in_ok-kind.ensures
     ∙ refused_at s.count k cs side (to_z w32 (of_z w32 side)) (to_z-of_z w32 side c.ranges.side) c.in_err-row.field-0.0 c.in_err-row.ensures in
-    let p = err_from_is_err_and c.from_residual.result c.from_residual.ensures.1 in
+    let p = err_from_is_err_and c.from_residual-in_err-row.result c.from_residual-in_err-row.ensures.1 in
     rw (p.1, p.2, e) (refl, refl)
 
 pub invariant_of-self : goal.invariant_of-self
@@ -53,7 +55,7 @@ invariant_of-self c =
     let side = c.args.side in
     let row = c.in_ok-row.row in
     let rule : Rule = record { row = row; sounds = true } in
-    let m = made_at s.count c.in-Some.kind cs side (to_z w32 (of_z w32 side)) (to_z-of_z w32 side c.ranges.side) row c.in_ok-row.ensures in
+    let m = made_at s.count c.in_ok-kind.kind cs side (to_z w32 (of_z w32 side)) (to_z-of_z w32 side c.ranges.side) row c.in_ok-row.ensures in
     let same = ap (λ (t : Constraint). t.coefficients) m.1 in
     let used = used_more s.count s.rules s.len rule (omega (arith, s.places)) s.used
     (λ k q. ap (λ (zs : List ℤ). get_or zs k (pos 0)) same ∙ row_used s.count cs side m.0 k q) in
@@ -70,10 +72,10 @@ returns c =
     let cs = c.args.coefficients.now in
     let side = c.args.side in
     let n = length_rules s in
-    let k = c.in-Some.kind in
+    let k = c.in_ok-kind.kind in
     let row = c.in_ok-row.row in
     let rule : Rule = record { row = row; sounds = true } in
-    let read = sym c.in-Some.is ∙ c.kind_of.ensures in
+    let read = c.in_ok-kind.ensures in
     let m = made_at s.count k cs side (to_z w32 (of_z w32 side)) (to_z-of_z w32 side c.ranges.side) row c.in_ok-row.ensures in
     let e = at_kind c.args.kind cs side (plan_view s) (Some k) c.if-self-eq0.false (omega arith) read ∙ m.0 in
     let new : (rule_view rule ∷ []) ≡ new_rule (kind_of c.args.kind) cs side =

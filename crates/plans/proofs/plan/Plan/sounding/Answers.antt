@@ -1,49 +1,36 @@
 -- What `sounding` leaves to show. Assumes nothing.
-use Rattle.std.proofs.Common.{◌≡◌, ℕ, ◌<◌, length, take, refl, ap, ◌∙◌, arith}
-use Rattle.std.proofs.lemmas.List.{length-set}
+use Rattle.std.proofs.Common.{◌≡◌, ℕ, List, [], ◌∷◌, ◌++◌, length, take, sym, ap, ◌∙◌, subst, arith}
+use Rattle.std.proofs.lemmas.List.{take_all}
+use Rattle.rows.specs.Lists.{items}
+use Rattle.plans.specs.declared.rule.Rule.{Rule}
 use Rattle.plans.specs.Rules.{rule_views}
 use Rattle.plans.specs.Sounding.{sounding_rows}
 use Rattle.plans.proofs.Soundings.{taken_on, passed_over}
 use Rattle.plans.proofs.plan.Plan.sounding.Goals as goal
 use Rattle.plans.proofs.plan.Plan.sounding.Goals.{then-rule, else-rule}
 
-pub loop-i-init : goal.loop-i-init
-loop-i-init c = (refl, omega arith, refl)
+pub push-requires : goal.push-requires
+push-requires c = let s = c.args.self.now in omega (arith, s.short, c.loop-rule.invariant.0, c.loop-rule-test.true, c.rules-rule-items.ensures.count)
 
-pub offset_bounds-rows-len : goal.offset_bounds-rows-len
-offset_bounds-rows-len c = let s = c.args.self.now in omega (arith, s.short, c.loop-i.invariant.0, c.loop-i.invariant.1)
-
-pub bounds-rows-len : goal.bounds-rows-len
-bounds-rows-len c = let s = c.args.self.now in omega (arith, s.short, c.loop-i.invariant.0, c.loop-i.invariant.1)
-
-pub overflow_add-len : goal.overflow_add-len
-overflow_add-len c = let s = c.args.self.now in omega (arith, s.short, c.loop-i.invariant.1)
-
-pub loop-i-preserved : goal.loop-i-preserved
-loop-i-preserved c =
-    let s = c.args.self.now in
-    let inv = c.loop-i.invariant in
-    let i = c.loop-i.i in
-    let below : i < length s.rules = omega (arith, s.short, s.places) in
-    let room : c.loop-i.len < length c.loop-i.rows = omega (arith, s.short) in
+pub loop-rule-preserved : goal.loop-rule-preserved
+loop-rule-preserved c =
+    let rules = c.rules-rule-items.result.now in
+    let i = c.loop-rule.rule-index in
+    let before = items c.loop-rule.rows in
+    let rule = c.rule-item.result in
     elim c.if-rule.branch [
-      | then-rule w ↦ rw (w.rows-is, w.len-is) (
-        length-set c.loop-i.rows c.loop-i.len _ ∙ inv.0,
-        omega arith,
-        taken_on s.rules c.loop-i.rows i c.loop-i.len c.index-self-i.result below room w.if-rule.true inv.2,
+      | then-rule w ↦ rw w.rows-is (
+        omega (arith, c.loop-rule.invariant.0, w.push.ensures.count),
+        taken_on rules before (items w.push.new.self) i rule c.loop-rule-test.true (sym (ap (λ (r : Rule). r.sounds) c.rule-item.is) ∙ w.if-rule.true) c.loop-rule.invariant.1 (w.push.ensures.value ∙ ap (λ (r : Rule). before ++ r.row ∷ []) c.rule-item.is),
       )
-      | else-rule w ↦ rw (w.rows-is, w.len-is) (
-        inv.0,
-        omega arith,
-        passed_over s.rules c.loop-i.rows i c.loop-i.len c.index-self-i.result below w.if-rule.false inv.2,
+      | else-rule w ↦ rw w.rows-is (
+        omega (arith, c.loop-rule.invariant.0),
+        passed_over rules before i rule c.loop-rule-test.true (sym (ap (λ (r : Rule). r.sounds) c.rule-item.is) ∙ w.if-rule.false) c.loop-rule.invariant.1,
       )
     ]
 
-pub invariant_of-result : goal.invariant_of-result
-invariant_of-result c = let s = c.args.self.now in record { short = omega (arith, s.short, c.loop-i.invariant.1); places = c.loop-i.invariant.0 }
-
 pub returns : goal.returns
 returns c =
-    let s = c.args.self.now in
-    let e : c.loop-i.i ≡ s.len = omega arith in
-    c.loop-i.invariant.2 ∙ ap (λ (n : ℕ). sounding_rows (rule_views (take n s.rules))) e
+    let rules = c.rules-rule-items.result.now in
+    c.loop-rule.invariant.1
+    ∙ ap (λ (rs : List Rule). sounding_rows (rule_views rs)) (take_all c.loop-rule.rule-index rules c.loop-rule-test.false ∙ c.rules-rule-items.ensures.value)

@@ -1,10 +1,11 @@
-// A list of rows. Assumes nothing; every value keeps its invariant.
+// A list of rows in fixed memory. Assumes nothing; every value keeps its invariant.
 ghost use Rattle.std.specs.Prelude.{◌≡◌, ◌≤◌, length};
 ghost use Rattle.rows.specs.Limits.{most_rows};
 
-use rows::bounds::ROWS;
-use rows::row::Row;
+use crate::bounds::ROWS;
+use crate::row::Row;
 
+// At most sixteen rows.
 #[derive(Clone, Copy)]
 pub struct RowList {
     // the first `len` of them are the list
