@@ -6,7 +6,7 @@ ghost use Rattle.plans.specs.Rules.{UsedBelow};
 use crate::rule::Rule;
 use rows::bounds::ROWS;
 
-#[derive(Clone, Copy)]
+#[derive(Clone, Copy, PartialEq, Eq, Debug)]
 pub struct Plan {
     // 0 while no plan is open
     pub count: u8,

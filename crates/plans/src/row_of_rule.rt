@@ -22,8 +22,8 @@ fn is_offending(count: u8, fader: usize, coefficient: i16) -> bool
 fn first_offending(count: u8, coefficients: &[i16; FADERS]) -> Option<u8>
     ensures { result ≡ first_offending count 0 coefficients.now }
 {
-    for fader in 0..FADERS {
-        if is_offending(count, fader, coefficients[fader]) {
+    for (fader, coefficient) in coefficients.iter().enumerate() {
+        if is_offending(count, fader, *coefficient) {
             return Some(fader as u8);
         }
     }
@@ -36,8 +36,8 @@ fn widened(coefficients: &[i16; FADERS]) -> [i32; FADERS]
     ensures within { EachWithin result }
 {
     let mut wide = [0; FADERS];
-    for k in 0..FADERS {
-        wide[k] = coefficients[k] as i32;
+    for (k, coefficient) in coefficients.iter().enumerate() {
+        wide[k] = *coefficient as i32;
     }
     wide
 }

@@ -1,7 +1,7 @@
 // A rule of a plan. Assumes nothing.
 use rows::row::Row;
 
-#[derive(Clone, Copy)]
+#[derive(Clone, Copy, PartialEq, Eq, Debug)]
 pub struct Rule {
     pub row: Row,
     // or it is muted

@@ -13,23 +13,6 @@ fn number(reply: Result<(), Refusal>) -> u8 {
     }
 }
 
-fn same(a: &Plan, b: &Plan) -> bool {
-    if a.count != b.count || a.len != b.len {
-        return false;
-    }
-    for i in 0..ROWS {
-        if a.rules[i].sounds != b.rules[i].sounds || a.rules[i].row.kind != b.rules[i].row.kind {
-            return false;
-        }
-        if a.rules[i].row.coefficients != b.rules[i].row.coefficients
-            || a.rules[i].row.side != b.rules[i].row.side
-        {
-            return false;
-        }
-    }
-    true
-}
-
 // A desk with two faders, and the rule that the first is below 40.
 fn desk() -> Result<Plan, Fail> {
     let mut plan = Plan::new();
@@ -47,7 +30,7 @@ fn no_plan(rt: HostRuntime) {
     assert!(rt; number(plan.lift()) == 2);
     assert!(rt; number(plan.mute(0)) == 2);
     assert!(rt; number(plan.sound(0)) == 2);
-    assert!(rt; same(&plan, &Plan::new()));
+    assert!(rt; plan == Plan::new());
     assert!(rt; number(plan.open(6)) == 0);
 }
 
@@ -69,7 +52,7 @@ fn refused(rt: HostRuntime) -> Result<(), Fail> {
     assert!(rt; number(plan.mute(1)) == 8);
     assert!(rt; number(plan.sound(1)) == 8);
     assert!(rt; number(plan.sound(0)) == 10);
-    assert!(rt; same(&plan, &before));
+    assert!(rt; plan == before);
     Ok(())
 }
 
@@ -115,6 +98,6 @@ fn marks(rt: HostRuntime) -> Result<(), Fail> {
     assert_eq!(rt; plan.mute(0), Err(Refusal::AlreadyMuted));
     plan.sound(0)?;
     assert_eq!(rt; plan.sound(0), Err(Refusal::AlreadySounding));
-    assert!(rt; same(&plan, &before));
+    assert!(rt; plan == before);
     Ok(())
 }
