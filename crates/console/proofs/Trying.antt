@@ -5,7 +5,7 @@ use Rattle.std.proofs.lemmas.Bool.{le-ltb, ltb-false}
 use Rattle.rows.specs.Limits.{most_rows}
 use Rattle.rows.specs.Rows.{Constraint, constraint}
 use Rattle.engine.specs.declared.answer.Answer.{Answer as Kept}
-use Rattle.engine.specs.declared.answer.Answer.TheVariants.{Nothing, Preset as KeptPreset, Clash}
+use Rattle.engine.specs.declared.answer.Answer.TheVariants.{Preset as KeptPreset, Clash}
 use Rattle.engine.specs.declared.fault.Fault.{Fault}
 use Rattle.engine.specs.declared.refusal.Refusal.{Refusal}
 use Rattle.engine.specs.declared.refusal.Refusal.TheVariants.{TooLarge, Feasible, ShortTable}
@@ -64,10 +64,8 @@ clash_is (Answer.clash ws) = Unit {0}
 
 -- only a clash is held as one
 pub said_is : (stay go : Result (List (ℕ × Constraint)) Fault) (o : Option Refusal) (n : ℕ) (v : Verdict) (a : Kept) → RepliesAt o n v (Ok a) → tried v stay go ≡ cond (holds_clash a) go stay
-said_is stay go None n (Verdict.preset ns d) Nothing told = refl
 said_is stay go None n (Verdict.preset ns d) (KeptPreset p) told = refl
 said_is stay go None n (Verdict.preset ns d) (Clash w) told = absurd (subst clash_is told tt)
-said_is stay go None n (Verdict.clash ws) Nothing told = absurd (subst clash_is (sym told) tt)
 said_is stay go None n (Verdict.clash ws) (KeptPreset p) told = absurd (subst clash_is (sym told) tt)
 said_is stay go None n (Verdict.clash ws) (Clash w) told = refl
 said_is stay go None n (Verdict.fault f) a told = absurd told
@@ -127,7 +125,6 @@ module _ (U : Type 0) (verdict : ℕ → List Constraint → Verdict) (needed he
       (by (table_refusal needed held) (verdict p.count (sounding_rows p.rules)) a told e)
     where
       by : (o : Option Refusal) (v : Verdict) (a : Kept) → RepliesAt o (length (sounding_rows p.rules)) v (Ok a) → holds_clash a ≡ true → BlamedAt o v (walked (verdict p.count) [] (numbered 0 p.rules)) m r n
-      by None (Verdict.preset ns d) Nothing told e = absurd (no_clash e)
       by None (Verdict.preset ns d) (KeptPreset q) told e = absurd (no_clash e)
       by None (Verdict.preset ns d) (Clash w) told e = absurd (subst clash_is told tt)
       by None (Verdict.clash ws) a told e = names
@@ -141,7 +138,6 @@ module _ (U : Type 0) (verdict : ℕ → List Constraint → Verdict) (needed he
     where
       by : (o : Option Refusal) (v : Verdict) (a : Kept) → RepliesAt o (length (sounding_rows p.rules)) v (Ok a) → holds_clash a ≡ false → BlamedAt {U = U} o v (walked (verdict p.count) [] (numbered 0 p.rules)) m (Err Feasible) m
       by None (Verdict.preset ns d) a told e = (refl, refl)
-      by None (Verdict.clash ws) Nothing told e = absurd (subst clash_is (sym told) tt)
       by None (Verdict.clash ws) (KeptPreset q) told e = absurd (subst clash_is (sym told) tt)
       by None (Verdict.clash ws) (Clash w) told e = absurd (no_clash (sym e))
       by None (Verdict.fault f) a told e = absurd told

@@ -20,8 +20,8 @@ fn feed<E: Engine>(engine: &mut E, count: u8, rules: &[Rule]) -> Result<usize, R
 {
     engine.start(count)?;
     let mut given = 0;
-    for number in 0..rules.len() {
-        let rule = rules[number];
+    for (number, rule) in rules.iter().enumerate() {
+        prove!(given <= number);
         if rule.sounds {
             engine.take(&rule.row)?;
             given += 1;
@@ -51,8 +51,7 @@ fn by_number(rules: &[Rule], weights: &Weights) -> [i32; ROWS]
 {
     let mut spread = [0; ROWS];
     let mut place = 0;
-    for number in 0..rules.len() {
-        let rule = rules[number];
+    for (number, rule) in rules.iter().enumerate() {
         if rule.sounds {
             spread[number] = weights.values[place];
             place += 1;
@@ -73,7 +72,7 @@ pub fn ask<E: Engine>(
     if plan.count == 0 {
         return Err(Refusal::NoPlan);
     }
-    let rules = &plan.rules[..plan.len as usize];
+    let rules = plan.rules();
     match decide_sounding(engine, plan.count, rules, table)? {
         Answer::Preset(preset) => {
             let numerators = preset.numerators;
@@ -90,7 +89,6 @@ pub fn ask<E: Engine>(
                 weights: by_number(rules, &weights),
             };
         }
-        Answer::Nothing => return Err(Refusal::NoAnswer),
     }
     Ok(())
 }

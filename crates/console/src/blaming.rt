@@ -21,8 +21,7 @@ fn marks_of(rules: &[Rule]) -> [u8; ROWS]
     ensures { result ≡ marks_from most_rows 0 (numbers_of (numbered 0 (rule_views rules.now))) }
 {
     let mut marks = [0; ROWS];
-    for number in 0..rules.len() {
-        let rule = rules[number];
+    for (number, rule) in rules.iter().enumerate() {
         if rule.sounds {
             marks[number] = 1;
         }
@@ -78,7 +77,7 @@ pub fn blame<E: Engine>(
     }
     let count = plan.count;
     let len = plan.len as usize;
-    let whole = decide_sounding(engine, count, &plan.rules[..len], table)?;
+    let whole = decide_sounding(engine, count, plan.rules(), table)?;
     if !whole.is_clash() {
         return Err(Refusal::Feasible);
     }

@@ -27,8 +27,8 @@ pub fn play<E: Engine>(
 {
     let mut plan = Plan::new();
     let count = commands.len().min(replies.len());
-    for i in 0..count {
-        replies[i] = perform(&mut plan, commands[i], engine, table);
+    for (i, command) in commands[..count].iter().enumerate() {
+        replies[i] = perform(&mut plan, *command, engine, table);
     }
     count
 }

@@ -1,6 +1,6 @@
 -- What `play` leaves to show. Assumes nothing.
 use Rattle.std.proofs.Common.{◌≡◌, ℕ, ◌+◌, ◌<◌, List, [], ◌∷◌, ◌++◌, length, get_or, take, drop, set, Option, sym, refl, ap, ◌∙◌, subst, arith}
-use Rattle.std.proofs.lemmas.List.{take_more, take_more_set, map-append, drop-drop, drop-set-lt}
+use Rattle.std.proofs.lemmas.List.{length-take-le, get_or-take, take_more, take_more_set, map-append, drop-drop, drop-set-lt}
 use Rattle.rows.specs.Rows.{Constraint}
 use Rattle.engine.specs.declared.refusal.Refusal.{Refusal}
 use Rattle.engine.specs.Verdicts.{Verdict, Valid}
@@ -55,15 +55,17 @@ pub loop-i-preserved : goal.loop-i-preserved
 loop-i-preserved g c =
     let l = c.loop-i in
     let n = c.min-count.ensures in
+    let long = length-take-le c.min-count.result c.args.commands.now (omega (arith, n)) in
     let here = step g.E.Engine.verdict (table_refusal g.E.Engine.cells (length l.table)) c.args.commands.now l.replies l.i _ _ c.perform.result (plan_view l.plan) (plan_view c.perform.new.plan)
-    refl (omega (arith, n, c.loop-i-test.true)) (omega (arith, n, c.loop-i-test.true, l.auto.replies)) l.invariant.0 c.perform.ensures.plan (l.invariant.1, l.invariant.2) c.perform.ensures.reply c.perform.ensures.exact in
+    (get_or-take c.min-count.result c.args.commands.now l.i _ (omega (arith, long, c.loop-i-test.true))) (omega (arith, n, long, c.loop-i-test.true)) (omega (arith, n, long, c.loop-i-test.true, l.auto.replies)) l.invariant.0 c.perform.ensures.plan (l.invariant.1, l.invariant.2) c.perform.ensures.reply c.perform.ensures.exact in
     let so = subst (λ (m : ℕ). So g.E.Engine.verdict (table_refusal g.E.Engine.cells m) (take (l.i + 1) c.args.commands.now) (reply_views (take (l.i + 1) (set l.replies l.i c.perform.result)))) (sym c.perform.auto.table) here.1 in
-    (here.0, so.0, so.1, plans_step c.args.commands.now l.i Lift c.perform.new.plan (omega (arith, n, c.loop-i-test.true)) here.0 l.invariant.3, rest_step l.replies c.args.replies.now l.i c.perform.result l.invariant.4)
+    (here.0, so.0, so.1, plans_step c.args.commands.now l.i Lift c.perform.new.plan (omega (arith, n, long, c.loop-i-test.true)) here.0 l.invariant.3, rest_step l.replies c.args.replies.now l.i c.perform.result l.invariant.4)
 
 pub returns : goal.returns
 returns g c =
     let l = c.loop-i in
-    let here : l.i ≡ c.min-count.result = omega (arith, c.loop-i-test.false, l.auto.i-end) in
+    let long = length-take-le c.min-count.result c.args.commands.now (omega (arith, c.min-count.ensures)) in
+    let here : l.i ≡ c.min-count.result = omega (arith, long, c.loop-i-test.false, l.auto.i-end) in
     let so = subst (λ (m : ℕ). So g.E.Engine.verdict (table_refusal g.E.Engine.cells (length c.args.table.now)) (take m c.args.commands.now) (reply_views (take m l.replies))) here
     (subst (λ (m : ℕ). So g.E.Engine.verdict (table_refusal g.E.Engine.cells m) (take l.i c.args.commands.now) (reply_views (take l.i l.replies))) l.auto.table (l.invariant.1, l.invariant.2)) in
     record { count = c.min-count.ensures; rest = subst (λ (m : ℕ). drop m l.replies ≡ drop m c.args.replies.now) here l.invariant.4; law = so.0; valid = subst (λ (m : ℕ). PlansValid (take m c.args.commands.now)) here l.invariant.3; exact = so.1 }
