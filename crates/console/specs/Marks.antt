@@ -1,5 +1,5 @@
 -- The marks of rules in a walk, and of the rules that it names. Assumes nothing.
-use Rattle.std.specs.Prelude.{◌≡◌, ℕ, zero, suc, ◌+◌, Bool, true, cond, List, [], ◌∷◌, ◌==◌}
+use Rattle.std.specs.Prelude.{◌≡◌, ℕ, zero, suc, ◌+◌, Bool, true, false, cond, List, [], ◌∷◌, ◌==◌, slice_index_or}
 use Rattle.plans.specs.declared.rule.Rule.{Rule}
 
 abbrev pub with_mark : Rule → Bool → Rule
@@ -28,3 +28,8 @@ abbrev pub Sounds : List Rule → ℕ → Type 0
 Sounds [] i = ⊥
 Sounds (r ∷ rules) zero = r.sounds ≡ true
 Sounds (r ∷ rules) (suc i) = Sounds rules i
+
+-- a guard that muted some rules may give the rule with the number i this mark: to be muted it sounds, and to sound again it was muted by the guard
+abbrev pub Markable : List Bool → List Rule → ℕ → Bool → Type 0
+Markable muted rules i true = slice_index_or muted i false ≡ true
+Markable muted rules i false = Sounds rules i

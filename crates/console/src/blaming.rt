@@ -51,10 +51,10 @@ fn walk<E: Engine>(
     for number in 0..len {
         let rule = guard.rules()[number];
         if rule.sounds {
-            guard.mute(number);
+            guard.mark(number, false);
             let rest = decide_sounding(engine, count, guard.rules(), table)?;
             if !rest.is_clash() {
-                guard.sound(number);
+                guard.mark(number, true);
             }
         }
     }

@@ -1,7 +1,7 @@
 // A guard over lent rules: the rules that it muted sound again at its end, on every way out. Assumes nothing.
-ghost use Rattle.std.specs.Prelude.{◌≡◌, ◌<◌, true, false, length, slice_index_or, slice_set};
+ghost use Rattle.std.specs.Prelude.{◌≡◌, ◌<◌, not, length, slice_set};
 ghost use Rattle.rows.specs.Limits.{most_rows};
-ghost use Rattle.console.specs.Marks.{marked, restored, Sounds};
+ghost use Rattle.console.specs.Marks.{marked, restored, Markable};
 
 use plans::Rule;
 use rows::ROWS;
@@ -33,29 +33,16 @@ impl Guard<'_> {
         self.rules
     }
 
-    // Mutes a rule that sounds.
-    pub fn mute(&mut self, i: usize)
+    // Mutes a rule that sounds, or has one that it muted sound again.
+    pub fn mark(&mut self, i: usize, sounds: bool)
         requires within { (i < length self.old.rules.now) × (i < most_rows) }
-        requires sounds { Sounds self.old.rules.now i }
+        requires other { Markable self.old.muted self.old.rules.now i sounds }
         ensures same { self.new.rules.ghost_name ≡ self.old.rules.ghost_name }
-        ensures marks { self.new.rules.now ≡ marked self.old.rules.now i false }
-        ensures muted { self.new.muted ≡ slice_set self.old.muted i true }
+        ensures marks { self.new.rules.now ≡ marked self.old.rules.now i sounds }
+        ensures muted { self.new.muted ≡ slice_set self.old.muted i (not sounds) }
         ensures back { restored self.new.muted self.new.rules.now ≡ restored self.old.muted self.old.rules.now }
     {
-        self.rules[i].sounds = false;
-        self.muted[i] = true;
-    }
-
-    // Has a rule that it muted sound again.
-    pub fn sound(&mut self, i: usize)
-        requires within { (i < length self.old.rules.now) × (i < most_rows) }
-        requires muted { slice_index_or self.old.muted i false ≡ true }
-        ensures same { self.new.rules.ghost_name ≡ self.old.rules.ghost_name }
-        ensures marks { self.new.rules.now ≡ marked self.old.rules.now i true }
-        ensures muted { self.new.muted ≡ slice_set self.old.muted i false }
-        ensures back { restored self.new.muted self.new.rules.now ≡ restored self.old.muted self.old.rules.now }
-    {
-        self.rules[i].sounds = true;
-        self.muted[i] = false;
+        self.rules[i].sounds = sounds;
+        self.muted[i] = !sounds;
     }
 }

@@ -18,12 +18,14 @@ use plans::Plan;
 use rows::ROWS;
 
 // The reply to a call that only edits the plan.
-fn done(res: Result<(), Refusal>) -> Reply
-    ensures { reply_view result ≡ result_reply res }
-{
-    match res {
-        Ok(()) => Reply::Done,
-        Err(refusal) => Reply::Refused(refusal),
+impl From<Result<(), Refusal>> for Reply {
+    ghost from_gives = { λ res reply. reply_view reply ≡ result_reply res };
+
+    fn from(res: Result<(), Refusal>) -> Reply {
+        match res {
+            Ok(()) => Reply::Done,
+            Err(refusal) => Reply::Refused(refusal),
+        }
     }
 }
 
@@ -72,15 +74,15 @@ pub fn perform<E: Engine>(
     ensures exact { reply_view result ≡ reply_of E.Engine.verdict (table_refusal E.Engine.cells (length table.old)) (plan_view plan.old) command }
 {
     match command {
-        Command::Open(count) => done(plan.open(count)),
+        Command::Open(count) => Reply::from(plan.open(count)),
         Command::Add {
             kind,
             coefficients,
             side,
-        } => done(plan.add(kind, &coefficients, side)),
-        Command::Lift => done(plan.lift()),
-        Command::Mute(number) => done(plan.mute(number)),
-        Command::Sound(number) => done(plan.sound(number)),
+        } => Reply::from(plan.add(kind, &coefficients, side)),
+        Command::Lift => Reply::from(plan.lift()),
+        Command::Mute(number) => Reply::from(plan.mute(number)),
+        Command::Sound(number) => Reply::from(plan.sound(number)),
         Command::Ask => reply_to_ask(plan, engine, table),
         Command::Blame => reply_to_blame(plan, engine, table),
     }

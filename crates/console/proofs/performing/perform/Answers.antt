@@ -28,8 +28,8 @@ returns-in-Open g c =
     let p = plan_view c.args.plan.now in
     let q = plan_view c.«open».new.self in
     let e = edit_replied (count_refusal c.in-Open.count) (after_open c.in-Open.count) p q c.«open».result c.«open».ensures in
-    let same = c.done.ensures ∙ e.0 in
-    let m = matched g.E.Engine.verdict (table_refusal g.E.Engine.cells (length c.args.table.now)) p q c.args.command (Open c.in-Open.count) (reply_view c.done.result) c.in-Open.is e.1 same same in
+    let same = c.from.ensures ∙ e.0 in
+    let m = matched g.E.Engine.verdict (table_refusal g.E.Engine.cells (length c.args.table.now)) p q c.args.command (Open c.in-Open.count) (reply_view c.from.result) c.in-Open.is e.1 same same in
     record { plan = m.0; reply = m.1; exact = m.2 }
 
 pub returns-in-Add : goal.returns-in-Add
@@ -42,8 +42,8 @@ returns-in-Add g c =
     let fs : SFits w32 s = search rules in
     let added : Added kind cs s p c.add.result q = simp to_z-of_z at c.add.ensures in
     let e = edit_replied (add_refusal kind cs s p) (after_add kind cs s p) p q c.add.result (added) in
-    let same = c.done-in-Add.ensures ∙ e.0 in
-    let m = matched g.E.Engine.verdict (table_refusal g.E.Engine.cells (length c.args.table.now)) p q c.args.command (Add kind cs s) (reply_view c.done-in-Add.result) c.in-Add.is e.1 same same in
+    let same = c.from-in-Add.ensures ∙ e.0 in
+    let m = matched g.E.Engine.verdict (table_refusal g.E.Engine.cells (length c.args.table.now)) p q c.args.command (Add kind cs s) (reply_view c.from-in-Add.result) c.in-Add.is e.1 same same in
     record { plan = m.0; reply = m.1; exact = m.2 }
 
 pub returns-in-Lift : goal.returns-in-Lift
@@ -51,8 +51,8 @@ returns-in-Lift g c =
     let p = plan_view c.args.plan.now in
     let q = plan_view c.lift.new.self in
     let e = edit_replied (lift_refusal p) (after_lift p) p q c.lift.result c.lift.ensures in
-    let same = c.done-in-Lift.ensures ∙ e.0 in
-    let m = matched g.E.Engine.verdict (table_refusal g.E.Engine.cells (length c.args.table.now)) p q c.args.command (Lift) (reply_view c.done-in-Lift.result) c.in-Lift.is e.1 same same in
+    let same = c.from-in-Lift.ensures ∙ e.0 in
+    let m = matched g.E.Engine.verdict (table_refusal g.E.Engine.cells (length c.args.table.now)) p q c.args.command (Lift) (reply_view c.from-in-Lift.result) c.in-Lift.is e.1 same same in
     record { plan = m.0; reply = m.1; exact = m.2 }
 
 pub returns-in-Mute : goal.returns-in-Mute
@@ -60,8 +60,8 @@ returns-in-Mute g c =
     let p = plan_view c.args.plan.now in
     let q = plan_view c.mute.new.self in
     let e = edit_replied (mark_refusal c.in-Mute.number false p) (after_mark c.in-Mute.number false p) p q c.mute.result c.mute.ensures in
-    let same = c.done-in-Mute.ensures ∙ e.0 in
-    let m = matched g.E.Engine.verdict (table_refusal g.E.Engine.cells (length c.args.table.now)) p q c.args.command (Mute c.in-Mute.number) (reply_view c.done-in-Mute.result) c.in-Mute.is e.1 same same in
+    let same = c.from-in-Mute.ensures ∙ e.0 in
+    let m = matched g.E.Engine.verdict (table_refusal g.E.Engine.cells (length c.args.table.now)) p q c.args.command (Mute c.in-Mute.number) (reply_view c.from-in-Mute.result) c.in-Mute.is e.1 same same in
     record { plan = m.0; reply = m.1; exact = m.2 }
 
 pub returns-in-Sound : goal.returns-in-Sound
@@ -69,6 +69,6 @@ returns-in-Sound g c =
     let p = plan_view c.args.plan.now in
     let q = plan_view c.sound.new.self in
     let e = edit_replied (mark_refusal c.in-Sound.number true p) (after_mark c.in-Sound.number true p) p q c.sound.result c.sound.ensures in
-    let same = c.done-in-Sound.ensures ∙ e.0 in
-    let m = matched g.E.Engine.verdict (table_refusal g.E.Engine.cells (length c.args.table.now)) p q c.args.command (Sound c.in-Sound.number) (reply_view c.done-in-Sound.result) c.in-Sound.is e.1 same same in
+    let same = c.from-in-Sound.ensures ∙ e.0 in
+    let m = matched g.E.Engine.verdict (table_refusal g.E.Engine.cells (length c.args.table.now)) p q c.args.command (Sound c.in-Sound.number) (reply_view c.from-in-Sound.result) c.in-Sound.is e.1 same same in
     record { plan = m.0; reply = m.1; exact = m.2 }
