@@ -120,8 +120,6 @@ pub fn read_commands(bytes: &[u8], commands: &mut [Command]) -> Reading
 }
 
 // The bytes of commands whose numbers are in range are read as these commands.
-pub fn reads_back() -> u8
+pub fn reads_back()
     ensures { ReadsBack }
-{
-    0
-}
+{}

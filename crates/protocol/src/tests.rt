@@ -2,7 +2,7 @@
 use crate::bytes::{MOST_BYTES, read_command, read_commands};
 use crate::lines::write_line;
 use console::{Command, Reply};
-use engine::{Fault, Refusal};
+use engine::{Cause, Fault, Refusal};
 
 // A rule with the lowest and the highest numbers.
 const WIDE: [u8; 18] = [
@@ -38,10 +38,7 @@ fn refuses(bytes: &[u8], number: u8) -> bool {
 // Whether so many commands are read, and reading stops with this number, or with 0 at the end.
 fn stops(bytes: &[u8], commands: &mut [Command], count: usize, number: u8) -> bool {
     let reading = read_commands(bytes, commands);
-    let stopped = match reading.stopped {
-        Some(refusal) => refusal.number(),
-        None => 0,
-    };
+    let stopped = reading.stopped.map_or(0, |refusal| refusal.number());
     reading.count == count && stopped == number
 }
 
@@ -155,7 +152,7 @@ fn writes_other_replies(rt: HostRuntime) {
     let marks = [0, 1, 1, 1, 0, 0, 0, 0, 0, 0, 0, 0, 0, 0, 0, 255];
     let fault = Fault {
         layer: 1,
-        cause: 2,
+        cause: Cause::TableFull,
         index: 255,
     };
     assert!(rt; writes(Reply::Done, b"OK\n"));

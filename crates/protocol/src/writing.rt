@@ -102,7 +102,7 @@ impl Line {
             Refusal::BadCoefficient(fader) => self.push_number(false, u32::from(*fader)),
             Refusal::TooLarge(fault) => {
                 self.push_number(false, u32::from(fault.layer));
-                self.push_number(false, u32::from(fault.cause));
+                self.push_number(false, u32::from(fault.cause.number()));
                 self.push_number(false, u32::from(fault.index));
             }
             _ => {}
