@@ -1,31 +1,17 @@
 // The list of rows written into the table, and the form that is not taken. Assumes nothing.
 ghost use Rattle.std.specs.Prelude.{◌≡◌, ◌≤◌, length, take};
 ghost use Rattle.rows.specs.Rows.{constraints};
-ghost use Rattle.elimination.specs.Working.{first_equation, is_equation, carried};
+ghost use Rattle.elimination.specs.Working.{first_equation, carried};
 ghost use Rattle.elimination.specs.Lines.{lines};
 
 use crate::cell::Cell;
 use rows::{Kind, Row};
 
-fn is_equation(kind: Kind) -> bool
-    ensures { result ≡ is_equation kind }
-{
-    match kind {
-        Kind::Equal => true,
-        Kind::AtMost | Kind::Below => false,
-    }
-}
-
 // The place of the first equation.
 pub fn first_equation(rows: &[Row]) -> Option<usize>
     ensures { result ≡ first_equation 0 (constraints rows.now) }
 {
-    for i in 0..rows.len() {
-        if is_equation(rows[i].kind) {
-            return Some(i);
-        }
-    }
-    None
+    rows.iter().position(|row| row.kind == Kind::Equal)
 }
 
 // The rows of the list fill the first places.
@@ -33,7 +19,7 @@ pub fn fill(table: &mut [Cell], rows: &[Row])
     requires { length rows.now ≤ length table.old }
     ensures { lines (take (length rows.now) table.new) ≡ carried 0 (constraints rows.now) }
 {
-    for i in 0..rows.len() {
-        table[i] = Cell::listed(&rows[i], i);
+    for (i, row) in rows.iter().enumerate() {
+        table[i] = Cell::listed(row, i);
     }
 }

@@ -26,13 +26,9 @@ impl Cell {
     pub fn listed(row: &Row, place: usize) -> Cell
         ensures { line result ≡ listed_line place (constraint row.now) }
     {
-        let strict = match row.kind {
-            Kind::Below => true,
-            Kind::AtMost | Kind::Equal => false,
-        };
         Cell {
             row: Carried::listed(row, place),
-            strict,
+            strict: row.kind == Kind::Below,
             aside: None,
         }
     }
