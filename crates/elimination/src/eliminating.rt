@@ -57,7 +57,7 @@ fn work_out(state: &State, table: &mut [Cell]) -> Result<Answer, Fault>
         return Err(Fault::new(FORM, i as u8));
     }
     fill(table, rows);
-    let held = eliminate_all(table, rows.len(), state.count as usize)?;
+    let held = eliminate_all(table, rows.len(), state.count)?;
     conclude(&table[..held], state.count)
 }
 

@@ -2,6 +2,7 @@
 #![tactic(auto)]
 
 mod bests;
+mod bounding;
 pub mod cell;
 mod choosing;
 pub mod eliminating;
@@ -12,6 +13,7 @@ mod limits;
 mod pairing;
 mod raising;
 pub mod rightness;
+mod side;
 pub mod table;
 #[cfg(test)]
 mod tests;

@@ -16,13 +16,13 @@ module _ (j k : ℕ) (t : List Line) (x : Levels) (e : j ≡ suc k) where
   set_none : None ≡ set_fader k t x → Err (number_beyond k) ≡ all_set j t x
   set_none s = ap (λ (o : Option Levels). elim o [ Some z ↦ all_set k t z | None ↦ Err (number_beyond k) ]) s ∙ sym (ap (λ (m : ℕ). all_set m t x) e)
 
-pub loop-k-preserved : goal.loop-k-preserved
-loop-k-preserved c =
-    set_some c.loop-k.k (c.loop-k.k - 1) (lines c.args.table.now) (levels_of c.loop-k.levels) (omega arith) (levels_of c.in-Some.next) c.in-Some.ensures
-    ∙ c.loop-k.invariant
+pub loop-index-preserved : goal.loop-index-preserved
+loop-index-preserved c =
+    set_some c.loop-index.index (c.loop-index.index - 1) (lines c.args.table.now) (levels_of c.loop-index.levels) (omega arith) (levels_of c.in-Ok.next) c.in-Ok.ensures
+    ∙ c.loop-index.invariant
 
-pub returns-in-None : goal.returns-in-None
-returns-in-None c =
+pub returns-in-Err : goal.returns-in-Err
+returns-in-Err c =
     ap (λ (f : Fault). Err f) c.new.ensures
-    ∙ set_none c.loop-k.k (c.loop-k.k - 1) (lines c.args.table.now) (levels_of c.loop-k.levels) (omega arith) c.in-None.ensures
-    ∙ c.loop-k.invariant
+    ∙ set_none c.loop-index.index (c.loop-index.index - 1) (lines c.args.table.now) (levels_of c.loop-index.levels) (omega arith) c.in-Err.ensures
+    ∙ c.loop-index.invariant

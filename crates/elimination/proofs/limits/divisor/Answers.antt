@@ -7,11 +7,12 @@ use Rattle.elimination.proofs.limits.divisor.Goals as goal
 pub returns : goal.returns
 returns c =
     let d = c.args.levels.now.denominator in
-    let z = get_or c.args.cell.now.row.coefficients c.args.k (pos 0) in
-    let f : SFits w32 z = fits_32 z (c.args.cell.now.row.within c.args.k) in
-    let e = simp to_z-of_z at c.unsigned_abs.ensures.value in
+    let z = get_or c.args.cell.now.row.coefficients c.args.fader.index (pos 0) in
+    let f : SFits w32 z = fits_32 z (c.args.cell.now.row.within c.args.fader.index) in
+    let u = rw c.place.ensures.value at c.unsigned_abs.ensures.value in
+    let e = simp to_z-of_z at u in
     let v = ap (λ (x : ℕ). x * d) e in
     record {
       value = v;
-      range = (subst (λ (x : ℕ). 0 < x) (sym v) (divisor_above c.args.levels.now c.args.cell.now c.args.k c.requires.1), omega (arith, v, divisor_near c.args.levels.now c.args.cell.now c.args.k));
+      range = (subst (λ (x : ℕ). 0 < x) (sym v) (divisor_above c.args.levels.now c.args.cell.now c.args.fader.index c.requires), omega (arith, v, divisor_near c.args.levels.now c.args.cell.now c.args.fader.index));
     }

@@ -7,23 +7,23 @@ use Rattle.elimination.proofs.pairing.eliminate_all.Goals as goal
 
 pub eliminate-requires : goal.eliminate-requires
 eliminate-requires c =
-    record { place = omega (arith, c.requires.count); table = (c.loop-k.invariant.0, omega (arith, c.loop-k.invariant.1, c.requires.table.1)) }
+    (c.loop-index.invariant.0, omega (arith, c.loop-index.invariant.1, c.requires.table.1))
 
-pub loop-k-init : goal.loop-k-init
-loop-k-init c = (c.requires.table.0, refl, ap (λ (x : ℕ). all_eliminated x 0 (lines (take c.args.held c.args.table.now))) (omega arith))
+pub loop-index-init : goal.loop-index-init
+loop-index-init c = (c.requires.table.0, refl, ap (λ (x : ℕ). all_eliminated x 0 (lines (take c.args.held c.args.table.now))) (omega arith))
 
-pub loop-k-preserved : goal.loop-k-preserved
-loop-k-preserved c =
-    let i = c.loop-k.invariant in
+pub loop-index-preserved : goal.loop-index-preserved
+loop-index-preserved c =
+    let i = c.loop-index.invariant in
     let e = c.in_ok-end.ensures in
-    (e.0, e.1 ∙ i.1, i.2 ∙ stage_ok c.args.count c.loop-k.k (lines (take c.loop-k.end c.loop-k.table)) (lines (take c.in_ok-end.end c.eliminate.new.table)) c.loop-k-test.true e.2)
+    (e.0, e.1 ∙ i.1, i.2 ∙ stage_ok c.args.count c.loop-index.index (lines (take c.loop-index.end c.loop-index.table)) (lines (take c.in_ok-end.end c.eliminate.new.table)) c.loop-index-test.true e.2)
 
 pub returns-in_err-end : goal.returns-in_err-end
 returns-in_err-end c =
     let p = err_from_is_err_and c.from_residual.result c.from_residual.ensures.1 in
-    rw (p.1, p.2) (c.loop-k.invariant.2 ∙ stage_err c.args.count c.loop-k.k (lines (take c.loop-k.end c.loop-k.table)) _ c.loop-k-test.true c.in_err-end.ensures)
+    rw (p.1, p.2) (c.loop-index.invariant.2 ∙ stage_err c.args.count c.loop-index.index (lines (take c.loop-index.end c.loop-index.table)) _ c.loop-index-test.true c.in_err-end.ensures)
 
 pub returns : goal.returns
 returns c =
-    let i = c.loop-k.invariant in
-    (i.0, i.1, i.2 ∙ no_stage c.args.count c.loop-k.k (lines (take c.loop-k.end c.loop-k.table)) c.loop-k-test.false)
+    let i = c.loop-index.invariant in
+    (i.0, i.1, i.2 ∙ no_stage c.args.count c.loop-index.index (lines (take c.loop-index.end c.loop-index.table)) c.loop-index-test.false)

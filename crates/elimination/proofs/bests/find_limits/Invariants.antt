@@ -1,0 +1,11 @@
+use Rattle.std.proofs.Common.{◌≡◌, ◌≤◌, map, take, drop}
+use Rattle.elimination.specs.Limiting.{limit_of}
+use Rattle.elimination.specs.Tightest.{limits_by}
+use Rattle.elimination.proofs.Collecting.{onto}
+use Rattle.elimination.proofs.bests.find_limits.Given as goal
+
+abbrev pub invariant-loop-cell : goal.invariant-loop-cell
+invariant-loop-cell g l =
+    let s = g.S.Side in
+    (l.n ≤ l.cell-index)
+    × (onto (map (λ b. limit_of b.limit) (take l.n l.found)) (limits_by s.limits s.turned l.fader.index l.levels (drop l.cell-index l.table)) ≡ limits_by s.limits s.turned l.fader.index l.levels l.table)
