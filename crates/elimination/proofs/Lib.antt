@@ -9,3 +9,4 @@ pub mod Leasts
 pub mod Collecting
 pub mod Bested
 pub mod Conclusion
+pub mod Mapped

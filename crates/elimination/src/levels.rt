@@ -1,5 +1,5 @@
 // The way back: each fader set within the limits of the rows set aside for it, from the highest down.
-// Assumes, as each function requires, that the table has at most 256 rows.
+// Assumes, where a function requires it, that the table has at most 256 rows.
 ghost use Rattle.std.specs.Prelude.{◌≡◌, ◌<◌, ◌≤◌, length};
 ghost use Rattle.std.specs.Option.{option_map};
 ghost use Rattle.std.specs.Result.{result_ok, result_map_both as mapped_ok};
@@ -10,25 +10,24 @@ ghost use Rattle.elimination.specs.Levels.{set_fader};
 ghost use Rattle.elimination.specs.Working.{all_set, at_rest};
 ghost use Rattle.elimination.specs.Limiting.{levels_of};
 
-use crate::bests::best_limit;
 use crate::cell::Cell;
 use crate::limit::Beyond;
-use crate::raising::with_level;
+use crate::setting::Setting;
 use crate::side::{Above, Below};
 use crate::values::value;
 use engine::Fault;
 use engine::fault::NUMBER;
 use rows::{FADERS, Fader, Preset};
 
-// The fader set, with the levels of the faders above it given, unless a number is beyond G.
-pub fn set_fader(table: &[Cell], fader: Fader, levels: &Preset) -> Result<Preset, Beyond>
-    requires { length table.now ≤ room }
-    ensures { option_map levels_of (result_ok result) ≡ set_fader fader.index (lines table.now) (levels_of levels.now) }
-{
-    let lower = best_limit::<Below>(table, fader, levels)?;
-    let upper = best_limit::<Above>(table, fader, levels)?;
-    let v = value(lower, upper)?;
-    with_level(fader, levels, &v)
+impl Setting<'_> {
+    // The levels with the fader set, unless a number is beyond G.
+    fn set_fader(&self) -> Result<Preset, Beyond>
+        ensures { option_map levels_of (result_ok result) ≡ set_fader self.now.fader.index (lines self.now.table.now) (levels_of self.now.levels.now) }
+    {
+        let lower = self.best_limit::<Below>()?;
+        let upper = self.best_limit::<Above>()?;
+        self.with_level(&value(lower, upper)?)
+    }
 }
 
 // Every fader at 0.
@@ -48,10 +47,12 @@ pub fn all_set(table: &[Cell], count: u8) -> Result<Preset, Fault>
 {
     let mut levels = at_rest();
     for index in (0..count).rev() {
-        match set_fader(table, Fader { index }, &levels) {
-            Ok(next) => levels = next,
-            Err(Beyond) => return Err(Fault::new(NUMBER, index)),
-        }
+        let setting = Setting {
+            table,
+            fader: Fader { index },
+            levels: &levels,
+        };
+        levels = setting.set_fader().map_err(|_| Fault::new(NUMBER, index))?;
     }
     Ok(levels)
 }

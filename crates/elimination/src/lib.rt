@@ -13,6 +13,7 @@ mod limits;
 mod pairing;
 mod raising;
 pub mod rightness;
+mod setting;
 mod side;
 pub mod table;
 #[cfg(test)]

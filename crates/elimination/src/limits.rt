@@ -11,9 +11,10 @@ ghost use Rattle.elimination.specs.Tightest.{limit_by};
 
 use crate::cell::Cell;
 use crate::limit::{Beyond, Limit};
+use crate::setting::Setting;
 use crate::side::Side;
 use integers::Fraction;
-use rows::{Fader, Preset, narrow};
+use rows::narrow;
 
 // The fraction in lowest terms, unless a number is then beyond G.
 pub fn lowest(numerator: i64, denominator: u64, strict: bool) -> Result<Limit, Beyond>
@@ -30,23 +31,26 @@ pub fn lowest(numerator: i64, denominator: u64, strict: bool) -> Result<Limit, B
     })
 }
 
-// The size of the fader's coefficient, times the denominator.
-fn divisor(fader: Fader, levels: &Preset, cell: &Cell) -> u64
-    requires { 0 < size fader.index (line cell.now) }
-    ensures value { result ≡ size fader.index (line cell.now) * levels.now.denominator }
-    ensures range { (0 < result) × (result < 2 ^ 63) }
-{
-    cell.row.coefficients[fader.place()].unsigned_abs() as u64 * levels.denominator as u64
-}
+impl Setting<'_> {
+    // The size of the fader's coefficient, times the denominator.
+    fn divisor(&self, cell: &Cell) -> u64
+        requires { 0 < size self.now.fader.index (line cell.now) }
+        ensures value { result ≡ size self.now.fader.index (line cell.now) * self.now.levels.now.denominator }
+        ensures range { (0 < result) × (result < 2 ^ 63) }
+    {
+        cell.row.coefficients[self.fader.place()].unsigned_abs() as u64
+            * self.levels.denominator as u64
+    }
 
-// The limit on a side, unless a number is beyond G.
-pub fn limit_on<S: Side>(fader: Fader, levels: &Preset, cell: &Cell) -> Result<Limit, Beyond>
-    requires { 0 < size fader.index (line cell.now) }
-    ensures { option_map limit_of (result_ok result) ≡ limit_by S.turned fader.index (levels_of levels.now) (line cell.now) }
-{
-    lowest(
-        S::turned(levels.remaining(&cell.row)),
-        divisor(fader, levels, cell),
-        cell.strict,
-    )
+    // The limit on a side, unless a number is beyond G.
+    pub fn limit_on<S: Side>(&self, cell: &Cell) -> Result<Limit, Beyond>
+        requires { 0 < size self.now.fader.index (line cell.now) }
+        ensures { option_map limit_of (result_ok result) ≡ limit_by S.turned self.now.fader.index (levels_of self.now.levels.now) (line cell.now) }
+    {
+        lowest(
+            S::turned(self.levels.remaining(&cell.row)),
+            self.divisor(cell),
+            cell.strict,
+        )
+    }
 }

@@ -31,13 +31,8 @@ fn append_pair(
     if held >= ROOM {
         return Err(Fault::new(TABLE, fader.index));
     }
-    match sum_of(upper, &lower, fader) {
-        Some(cell) => {
-            table[held] = cell;
-            Ok(held + 1)
-        }
-        None => Err(Fault::new(NUMBER, fader.index)),
-    }
+    table[held] = sum_of(upper, &lower, fader).ok_or(Fault::new(NUMBER, fader.index))?;
+    Ok(held + 1)
 }
 
 // Appends the sums of all pairs for a fader, outer and inner in table order; how many rows the table then holds.

@@ -1,10 +1,15 @@
-use Rattle.std.proofs.Common.{◌+◌, true, false, List, set, Ok, Err, sym, ap, ◌∙◌, subst, arith}
+use Rattle.std.proofs.Common.{◌≡◌, ℕ, ◌+◌, true, false, List, set, Ok, Err, Option, sym, ap, ◌∙◌, subst, arith}
 use Rattle.std.proofs.lemmas.Bool.{and_parts}
+use Rattle.std.proofs.lemmas.Result.{err_from_is_err_and}
+use Rattle.std.specs.Option.{MatchOption}
+use Rattle.std.specs.Result.{result_ok}
 use Rattle.engine.specs.declared.fault.Fault.{Fault}
-use Rattle.elimination.specs.Table.{Line, sums, stands, coefficient, is_positive, is_negative}
+use Rattle.elimination.specs.declared.cell.Cell.{Cell}
+use Rattle.elimination.specs.Table.{Line, sums, fits, combined, stands, coefficient, is_positive, is_negative}
 use Rattle.elimination.specs.Lines.{line}
 use Rattle.elimination.specs.Appends.{Appends}
 use Rattle.elimination.proofs.Appending.{appends_none, appends_one, appends_full, appends_beyond, pairs_at_is}
+use Rattle.elimination.proofs.Mapped.{fault_given}
 use Rattle.elimination.proofs.pairing.append_pair.Goals as goal
 
 pub sum_of-requires : goal.sum_of-requires
@@ -29,21 +34,31 @@ returns-then-held-ge-ROOM c =
     let e = pairs_at_is k u t c.args.j c.index-table-j.result true (omega (arith, c.requires.table)) c.index-table-j.is (sym c.stands_on.ensures ∙ c.if-not-stands_on.false) in
     ap (sums k c.args.held) e ∙ appends_full k c.args.held u l t t c.if-held-ge-ROOM.true ∙ ap (λ (f : Fault). Err f) (sym c.new.ensures)
 
-pub returns-in-Some : goal.returns-in-Some
-returns-in-Some c =
-    let t = c.args.table.now in
-    let k = c.args.fader.index in
-    let u = line c.args.upper.now in
-    let l = line c.index-table-j.result in
-    let e = pairs_at_is k u t c.args.j c.index-table-j.result true (omega (arith, c.requires.table)) c.index-table-j.is (sym c.stands_on.ensures ∙ c.if-not-stands_on.false) in
-    subst (λ (ps : List (Line × Line)). Appends k c.args.held ps t (Ok (c.args.held + 1)) (set t c.args.held c.in-Some.cell)) (sym e)
-    (appends_one k c.args.held u l t c.in-Some.cell c.if-held-ge-ROOM.false c.requires.table.1.1 c.in-Some.ensures.0 c.in-Some.ensures.1)
+-- the sum of the two rows, or that it does not fit
+module _ (k : ℕ) (u l : Line) where
+  abbrev Sum : Option Cell → Type 0
+  Sum o = MatchOption o (fits (combined k u l) ≡ false) (λ r. (fits (combined k u l) ≡ true) × (line r ≡ combined k u l))
 
-pub returns-in-None : goal.returns-in-None
-returns-in-None c =
+pub returns : goal.returns
+returns c =
+    let t = c.args.table.now in
+    let k = c.args.fader.index in
+    let u = line c.args.upper.now in
+    let l = line c.index-table-j.result in
+    let x = c.in_ok-table.field-0 in
+    let e = pairs_at_is k u t c.args.j c.index-table-j.result true (omega (arith, c.requires.table)) c.index-table-j.is (sym c.stands_on.ensures ∙ c.if-not-stands_on.false) in
+    let s = subst (Sum k u l) (c.ok_or.ensures.ok_part ∙ ap result_ok c.in_ok-table.was) c.sum_of.ensures in
+    subst (λ (ps : List (Line × Line)). Appends k c.args.held ps t (Ok (c.args.held + 1)) (set t c.args.held x)) (sym e)
+    (appends_one k c.args.held u l t x c.if-held-ge-ROOM.false c.requires.table.1.1 s.0 s.1)
+
+pub returns-in_err-table : goal.returns-in_err-table
+returns-in_err-table c =
     let t = c.args.table.now in
     let k = c.args.fader.index in
     let u = line c.args.upper.now in
     let l = line c.index-table-j.result in
     let e = pairs_at_is k u t c.args.j c.index-table-j.result true (omega (arith, c.requires.table)) c.index-table-j.is (sym c.stands_on.ensures ∙ c.if-not-stands_on.false) in
-    ap (sums k c.args.held) e ∙ appends_beyond k c.args.held u l t t c.if-held-ge-ROOM.false c.in-None.ensures ∙ ap (λ (f : Fault). Err f) (sym c.new-in-None.ensures)
+    let n = c.ok_or.ensures.ok_part ∙ ap result_ok c.in_err-table.was in
+    let f = fault_given c.sum_of.result c.in_err-table.field-0.0 c.new-2.result (sym c.in_err-table.was ∙ c.ok_or.ensures.value) in
+    let p = err_from_is_err_and c.from_residual.result c.from_residual.ensures.1 in
+    rw (p.1, p.2) (ap (sums k c.args.held) e ∙ appends_beyond k c.args.held u l t t c.if-held-ge-ROOM.false (subst (Sum k u l) n c.sum_of.ensures) ∙ ap (λ (x : Fault). Err x) (sym (f ∙ c.new-2.ensures)))
