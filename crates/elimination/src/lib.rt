@@ -8,13 +8,13 @@ mod choosing;
 pub mod eliminating;
 mod filling;
 mod levels;
-mod limit;
+pub mod limit;
 mod limits;
 mod pairing;
 mod raising;
 pub mod rightness;
 mod setting;
-mod side;
+pub mod side;
 pub mod table;
 #[cfg(test)]
 mod tests;
