@@ -7,6 +7,7 @@ pub mod cell;
 mod choosing;
 pub mod eliminating;
 mod filling;
+mod lent;
 mod levels;
 pub mod limit;
 mod limits;

@@ -1,4 +1,4 @@
-use Rattle.std.proofs.Common.{List, take, sym, ap, ◌∙◌, arith}
+use Rattle.std.proofs.Common.{List, Ok, sym, ap, ◌∙◌, arith}
 use Rattle.engine.specs.States.{state_rows}
 use Rattle.engine.proofs.StateRows.{length_state_rows}
 use Rattle.elimination.specs.Table.{Line, all_eliminated}
@@ -15,6 +15,7 @@ overflow_cast-i c =
 pub returns : goal.returns
 returns c =
     let s = c.args.state.now in
-    let e = c.in_ok-held.ensures in
-    let v = verdict_worked s.count (state_rows s) _ (sym c.first_equation.ensures ∙ c.in_default.is) (ap (λ (t : List Line). all_eliminated s.count 0 t) (sym c.fill.ensures) ∙ e.2) in
-    says_worked s.len s.count (state_rows s) (lines (take c.in_ok-held.held c.eliminate_all.new.table)) c.conclude.result (length_state_rows s) v c.conclude.ensures
+    let t = lines c.rows.result.now in
+    let e = ap (λ (x : List Line). all_eliminated s.count 0 x) (sym c.filled-filled.ensures) ∙ c.in_ok-eliminate_all.ensures ∙ ap Ok (sym c.rows.ensures) in
+    let v = verdict_worked s.count (state_rows s) (Ok t) (sym c.first_equation.ensures ∙ c.in_default.is) e in
+    says_worked s.len s.count (state_rows s) t c.conclude.result (length_state_rows s) v c.conclude.ensures

@@ -1,7 +1,7 @@
 use Rattle.std.proofs.Common.{◌≡◌, map, take, drop}
 use Rattle.elimination.specs.Table.{set_aside}
 use Rattle.elimination.specs.Lines.{lines}
-use Rattle.elimination.proofs.pairing.retire.Given as goal
+use Rattle.elimination.proofs.lent.Table.retire.Given as goal
 
 abbrev pub invariant-loop-cell : goal.invariant-loop-cell
 invariant-loop-cell l =
