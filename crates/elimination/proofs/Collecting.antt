@@ -1,7 +1,7 @@
 -- A loop that collects the limits of the rows that pass a test. Assumes nothing.
-use Rattle.std.proofs.Common.{◌≡◌, ℕ, ◌+◌, ◌<◌, ◌≤◌, Bool, true, false, List, [], ◌∷◌, ◌++◌, map, length, get_or, take, drop, set, Some, None, filter, Option, sym, refl, ap, ◌∙◌, append_assoc}
+use Rattle.std.proofs.Common.{◌≡◌, ℕ, ◌+◌, ◌<◌, ◌≤◌, Bool, true, false, List, [], ◌∷◌, ◌++◌, length, get_or, drop, Some, None, filter, Option, sym, refl, ap, ◌∙◌, append_assoc}
 use Rattle.std.specs.Option.{option_map}
-use Rattle.std.proofs.lemmas.List.{append-nil, at_drop_more, at_drop_all, take_more_set, map_push}
+use Rattle.std.proofs.lemmas.List.{append-nil, at_drop_more, at_drop_all}
 use Rattle.std.proofs.lemmas.Bool.{cond-true, cond-false}
 use Rattle.elimination.specs.declared.cell.Cell.{Cell}
 use Rattle.elimination.specs.Table.{Line}
@@ -41,11 +41,7 @@ module _ (f : Line → Option Limit) (p : Line → Bool) where
         let rest = filter p (lines (drop (i + 1) t)) in
         ap (onto ls) (next ∙ ap (limits f) (cond-false (p (line c)) (line c ∷ rest) rest e))
 
-    pub given_up : (ls : List Limit) → p (line c) ≡ true → None ≡ f (line c) → onto ls (gathered (drop i t)) ≡ None
-    given_up ls e s = ap (onto ls) (next ∙ taken c (drop (i + 1) t) e ∙ ap (λ (o : Option Limit). also o (gathered (drop (i + 1) t))) (sym s))
-
-    pub one_more : {X : Type 0} (g : X → Limit) (found : List X) (n : ℕ) (y : X) → n < length found → p (line c) ≡ true → Some (g y) ≡ f (line c) → onto (map g (take n found)) (gathered (drop i t)) ≡ onto (map g (take (n + 1) (set found n y))) (gathered (drop (i + 1) t))
-    one_more g found n y k e s =
-        ap (onto (map g (take n found))) (next ∙ taken c (drop (i + 1) t) e ∙ ap (λ (o : Option Limit). also o (gathered (drop (i + 1) t))) (sym s))
-        ∙ onto_also (map g (take n found)) (g y) (gathered (drop (i + 1) t))
-        ∙ sym (ap (λ (ls : List Limit). onto ls (gathered (drop (i + 1) t))) (ap (map g) (take_more_set found n y k) ∙ map_push g (take n found) y))
+    pub one_more : (ls : List Limit) (l : Limit) → p (line c) ≡ true → Some l ≡ f (line c) → onto ls (gathered (drop i t)) ≡ onto (ls ++ l ∷ []) (gathered (drop (i + 1) t))
+    one_more ls l e s =
+        ap (onto ls) (next ∙ taken c (drop (i + 1) t) e ∙ ap (λ (o : Option Limit). also o (gathered (drop (i + 1) t))) (sym s))
+        ∙ onto_also ls l (gathered (drop (i + 1) t))

@@ -1,12 +1,13 @@
 -- The limits of one fader in a table, and the best of them: on a side that is given by what distinguishes it, and on the two sides. Assumes nothing.
-use Rattle.std.specs.Prelude.{ℕ, ◌*◌, Bool, ◌&&◌, List, ℤ, filter, Option}
+use Rattle.std.specs.Prelude.{ℕ, ◌*◌, Bool, ◌&&◌, List, map, take, ℤ, filter, Option}
 use Rattle.std.specs.Option.{option_map}
 use Rattle.rows.specs.declared.preset.Preset.{Preset}
 use Rattle.elimination.specs.declared.cell.Cell.{Cell}
+use Rattle.elimination.specs.declared.found.Found.{Found}
 use Rattle.elimination.specs.Table.{Line, coefficient, size}
 use Rattle.elimination.specs.Lines.{lines}
 use Rattle.elimination.specs.Levels.{Levels, Limit, is_for, remaining, lowest, above, below, upper_limit, lower_limit, limits, better_upper, better_lower, first_best}
-use Rattle.elimination.specs.Limiting.{levels_of}
+use Rattle.elimination.specs.Limiting.{limit_of, levels_of}
 
 -- the limit whose numerator is made of what the row's side leaves for the fader
 abbrev pub limit_by : (ℤ → ℤ) → ℕ → Levels → Line → Option Limit
@@ -37,3 +38,7 @@ best_upper k p t = option_map (first_best better_upper) (upper_limits k p t)
 
 abbrev pub best_lower : ℕ → Preset → List Cell → Option (Option Limit)
 best_lower k p t = option_map (first_best better_lower) (lower_limits k p t)
+
+-- the limits that are found, in order
+abbrev pub found_limits : {S : Type 0} → Found S → List Limit
+found_limits f = map (λ b. limit_of b.limit) (take f.count f.limits)

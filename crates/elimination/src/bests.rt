@@ -1,15 +1,17 @@
 // The best limit of one fader on one side, over the rows of a table that are set aside for it.
-// Assumes, where a function requires it, that there is a place for each row of the table.
-ghost use Rattle.std.specs.Prelude.{◌≡◌, ◌≤◌, false, map, length, take, pos, IfOk};
+// Assumes, where a function requires it, that there is a place for one limit more.
+ghost use Rattle.std.specs.Prelude.{◌≡◌, ◌+◌, ◌<◌, false, [], ◌∷◌, ◌++◌, pos};
 ghost use Rattle.std.specs.Option.{option_map};
 ghost use Rattle.std.specs.Result.{result_ok};
 ghost use Rattle.elimination.specs.Lines.{line};
+ghost use Rattle.elimination.specs.Table.{room};
 ghost use Rattle.elimination.specs.Levels.{first_best};
 ghost use Rattle.elimination.specs.Limiting.{limit_of};
-ghost use Rattle.elimination.specs.Tightest.{bounds_by, limits_by, best_by};
+ghost use Rattle.elimination.specs.Tightest.{bounds_by, limits_by, best_by, found_limits};
 
 use crate::bounding::Bounding;
 use crate::cell::Cell;
+use crate::found::Found;
 use crate::limit::{Beyond, Limit};
 use crate::setting::Setting;
 use crate::side::Side;
@@ -27,12 +29,36 @@ fn blank() -> Limit
     }
 }
 
-// The best of the limits that are found, if there is any.
-fn best_of<S: Side>(found: &[Bounding<S>]) -> Option<Limit>
-    ensures { option_map limit_of result ≡ first_best S.tighter (map (λ b. limit_of b.limit) found.now) }
-{
-    let i = first_best(found)?;
-    Some(found[i].limit)
+impl<S: Side> Found<S> {
+    // None yet.
+    fn new() -> Found<S>
+        ensures none { found_limits result ≡ [] }
+        ensures count { result.count ≡ 0 }
+    {
+        Found {
+            limits: [Bounding::new(blank()); ROOM],
+            count: 0,
+        }
+    }
+
+    // One more, after the others.
+    fn push(&mut self, limit: Limit)
+        requires { self.old.count < room }
+        ensures limits { found_limits self.new ≡ found_limits self.old ++ limit_of limit ∷ [] }
+        ensures count { self.new.count ≡ self.old.count + 1 }
+    {
+        let n = self.count;
+        self.limits[n] = Bounding::new(limit);
+        self.count = n + 1;
+    }
+
+    // The best of them, if there is any.
+    fn best(&self) -> Option<Limit>
+        ensures { option_map limit_of result ≡ first_best S.tighter (found_limits self.now) }
+    {
+        let i = first_best(&self.limits[..self.count])?;
+        Some(self.limits[i].limit)
+    }
 }
 
 impl Setting<'_> {
@@ -43,28 +69,23 @@ impl Setting<'_> {
         cell.aside == Some(self.fader.index) && S::limits(cell.row.coefficients[self.fader.place()])
     }
 
-    // Writes the limits, in table order, and says how many they are, unless one is beyond G.
-    fn find_limits<S: Side>(&self, found: &mut [Bounding<S>]) -> Result<usize, Beyond>
-        requires { length self.now.table.now ≤ length found.old }
-        ensures value { option_map (λ n. map (λ b. limit_of b.limit) (take n found.new)) (result_ok result) ≡ limits_by S.limits S.turned self.now.fader.index self.now.levels.now self.now.table.now }
-        ensures range { IfOk result (λ n. n ≤ length found.old) }
+    // The limits, in table order, unless one is beyond G.
+    fn find_limits<S: Side>(&self) -> Result<Found<S>, Beyond>
+        ensures { option_map found_limits (result_ok result) ≡ limits_by S.limits S.turned self.now.fader.index self.now.levels.now self.now.table.now }
     {
-        let mut n = 0;
+        let mut found = Found::new();
         for cell in self.table {
             if self.bounds::<S>(cell) {
-                found[n] = Bounding::new(self.limit_on::<S>(cell)?);
-                n += 1;
+                found.push(self.limit_on::<S>(cell)?);
             }
         }
-        Ok(n)
+        Ok(found)
     }
 
     // The best limit, if there is any, unless one is beyond G.
     pub fn best_limit<S: Side>(&self) -> Result<Option<Limit>, Beyond>
         ensures { option_map (option_map limit_of) (result_ok result) ≡ best_by S.limits S.turned S.tighter self.now.fader.index self.now.levels.now self.now.table.now }
     {
-        let mut found = [Bounding::<S>::new(blank()); ROOM];
-        let n = self.find_limits::<S>(&mut found)?;
-        Ok(best_of(&found[..n]))
+        Ok(self.find_limits::<S>()?.best())
     }
 }

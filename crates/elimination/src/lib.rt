@@ -7,6 +7,7 @@ pub mod cell;
 mod choosing;
 pub mod eliminating;
 mod filling;
+mod found;
 mod lent;
 mod levels;
 pub mod limit;
