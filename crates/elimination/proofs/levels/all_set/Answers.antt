@@ -28,12 +28,6 @@ module _ (j k : ℕ) (t : List Line) (x : Levels) (r : Result Preset Beyond) (e 
   set_none d h =
       ap (λ (o : Option Levels). elim o [ Some z ↦ all_set k t z | None ↦ Err (number_beyond k) ]) (sym (ap said h) ∙ s) ∙ sym (ap (λ (m : ℕ). all_set m t x) e)
 
-pub loop-index-preserved : goal.loop-index-preserved
-loop-index-preserved c =
-    let h = ok_before _ c.set_fader.result c.map_err.result c.in_ok-levels.levels c.map_err.ensures.cases c.in_ok-levels.was in
-    set_some c.loop-index.index-counter (c.loop-index.index-counter - 1) (lines c.args.table.now) (levels_of c.loop-index.levels) c.set_fader.result (omega arith) c.set_fader.ensures c.in_ok-levels.levels h
-    ∙ c.loop-index.invariant
-
 pub returns-in_err-levels : goal.returns-in_err-levels
 returns-in_err-levels c =
     let h = err_before _ c.set_fader.result c.map_err.result c.in_err-levels.field-0.0 c.map_err.ensures.cases c.in_err-levels.was in

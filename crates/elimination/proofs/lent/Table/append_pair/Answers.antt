@@ -12,13 +12,6 @@ use Rattle.elimination.proofs.Appending.{appends_none, appends_one, appends_full
 use Rattle.elimination.proofs.Mapped.{fault_given}
 use Rattle.elimination.proofs.lent.Table.append_pair.Goals as goal
 
-pub sum_of-requires : goal.sum_of-requires
-sum_of-requires c =
-    let u = line c.args.upper.now in
-    let l = line (get_or c.args.self.now.cells.now c.args.j c.index-self-j.result) in
-    let k = c.args.fader.index in
-    ((and_parts (stands u) (is_positive (coefficient u k)) c.requires.upper).1, (and_parts (stands l) (is_negative (coefficient l k)) (sym c.stands_on.ensures ∙ c.if-not-stands_on.false)).1)
-
 pub returns-then-not-stands_on : goal.returns-then-not-stands_on
 returns-then-not-stands_on c =
     let t = c.args.self.now.cells.now in

@@ -6,12 +6,6 @@ use Rattle.elimination.proofs.PairSteps.{inner_more, inner_ends, outer_row, oute
 use Rattle.elimination.proofs.lent.Table.append_pairs.Goals as goal
 use Rattle.elimination.proofs.lent.Table.append_pairs.Goals.{then-stands_on+else-loop-j-test, else-stands_on}
 
-pub append_pair-requires : goal.append_pair-requires
-append_pair-requires c =
-    let a = c.loop-i.invariant in
-    let b = c.loop-j.invariant in
-    record { place = omega (arith, a.0, b.0); upper = sym c.stands_on.ensures ∙ c.if-stands_on.true }
-
 pub loop-i-init : goal.loop-i-init
 loop-i-init c = appends_none c.args.fader.index c.args.self.now.held c.args.self.now.cells.now c.args.self.now.few
 

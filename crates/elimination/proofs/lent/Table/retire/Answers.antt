@@ -5,9 +5,6 @@ use Rattle.elimination.specs.Lines.{line}
 use Rattle.elimination.proofs.Retiring.{retired_more, left_more}
 use Rattle.elimination.proofs.lent.Table.retire.Goals as goal
 
-pub loop-cell-init : goal.loop-cell-init
-loop-cell-init c = (refl, refl)
-
 pub loop-cell-preserved : goal.loop-cell-preserved
 loop-cell-preserved c =
     let k = c.args.fader.index in
