@@ -1,7 +1,7 @@
 -- A loop that collects the limits of the rows that pass a test. Assumes nothing.
-use Rattle.std.proofs.Common.{◌≡◌, ℕ, ◌+◌, ◌<◌, ◌≤◌, Bool, true, false, List, [], ◌∷◌, ◌++◌, length, get_or, drop, Some, None, filter, Option, sym, refl, ap, ◌∙◌, append_assoc}
+use Rattle.std.proofs.Common.{◌≡◌, ℕ, ◌+◌, ◌<◌, Bool, true, false, List, [], ◌∷◌, ◌++◌, length, get_or, drop, Some, None, filter, Option, sym, refl, ap, ◌∙◌, append_assoc}
 use Rattle.std.specs.Option.{option_map}
-use Rattle.std.proofs.lemmas.List.{append-nil, at_drop_more, at_drop_all}
+use Rattle.std.proofs.lemmas.List.{at_drop_more}
 use Rattle.std.proofs.lemmas.Bool.{cond-true, cond-false}
 use Rattle.elimination.specs.declared.cell.Cell.{Cell}
 use Rattle.elimination.specs.Table.{Line}
@@ -11,10 +11,6 @@ use Rattle.elimination.specs.Levels.{Limit, also, limits}
 -- what is found, before what is still to be found
 abbrev pub onto : List Limit → Option (List Limit) → Option (List Limit)
 onto ls o = option_map (λ ms. ls ++ ms) o
-
-pub onto_none : (o : Option (List Limit)) → onto [] o ≡ o
-onto_none None = refl
-onto_none (Some ms) = refl
 
 onto_also : (ls : List Limit) (l : Limit) (o : Option (List Limit)) → onto ls (also (Some l) o) ≡ onto (ls ++ l ∷ []) o
 onto_also ls l None = refl
@@ -27,9 +23,6 @@ module _ (f : Line → Option Limit) (p : Line → Bool) where
 
   taken : (c : Cell) (t : List Cell) → p (line c) ≡ true → gathered (c ∷ t) ≡ also (f (line c)) (gathered t)
   taken c t e = ap (limits f) (cond-true (p (line c)) (line c ∷ filter p (lines t)) (filter p (lines t)) e)
-
-  pub all_found : (ls : List Limit) (t : List Cell) (i : ℕ) → length t ≤ i → onto ls (gathered (drop i t)) ≡ Some ls
-  all_found ls t i h = ap (onto ls) (at_drop_all gathered t i h) ∙ ap Some (append-nil ls)
 
   -- one turn, at the row c of the table
   module _ (t : List Cell) (i : ℕ) (c : Cell) (h : i < length t) (is : c ≡ get_or t i c) where

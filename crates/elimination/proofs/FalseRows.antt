@@ -124,7 +124,3 @@ false_chosen (a ∷ t) b c f e =
   where
     same : {x y : Cell} → ◌≡◌ {A = Option Cell} (Some x) (Some y) → x ≡ y
     same r = cc
-
-pub none_chosen : (t : List Cell) → length t ≡ 0 → None ≡ chosen_false (lines t)
-none_chosen [] e = refl
-none_chosen (c ∷ t) e = absurd (omega arith)

@@ -7,10 +7,6 @@ apart : {X F : Type 0} (x : X) (f : F) → ◌≡◌ {A = Result X F} (Ok x) (Er
 apart x f e = cc
 
 module _ {X E F : Type 0} (P : E → F → Type 0) where
-  pub ok_before : (r : Result X E) (m : Result X F) (x : X) → MatchResult r (λ y. m ≡ Ok y) (λ d. IsErrAnd m (P d)) → m ≡ Ok x → r ≡ Ok x
-  ok_before (Ok y) m x h e = cc
-  ok_before (Err d) m x h e = absurd (subst (λ (n : Result X F). IsErrAnd n (P d)) e h)
-
   pub err_before : (r : Result X E) (m : Result X F) (f : F) → MatchResult r (λ y. m ≡ Ok y) (λ d. IsErrAnd m (P d)) → m ≡ Err f → (d : E) × (r ≡ Err d) × P d f
   err_before (Ok y) m f h e = absurd (apart y f (sym h ∙ e))
   err_before (Err d) m f h e = (d, refl, subst (λ (n : Result X F). IsErrAnd n (P d)) e h)

@@ -1,9 +1,7 @@
-use Rattle.std.proofs.Common.{List, Ok, sym, ap, ◌∙◌, arith}
+use Rattle.std.proofs.Common.{sym, ◌∙◌, arith}
 use Rattle.engine.specs.States.{state_rows}
 use Rattle.engine.proofs.StateRows.{length_state_rows}
-use Rattle.elimination.specs.Table.{Line, all_eliminated}
-use Rattle.elimination.specs.Lines.{lines}
-use Rattle.elimination.proofs.Conclusion.{equation_within, verdict_worked, says_worked}
+use Rattle.elimination.proofs.Conclusion.{equation_within}
 use Rattle.elimination.proofs.eliminating.work_out.Goals as goal
 
 pub overflow_cast-i : goal.overflow_cast-i

@@ -1,8 +1,4 @@
-use Rattle.std.proofs.Common.{◌≡◌, ℕ, length, take, ap, ◌∙◌, subst, arith}
-use Rattle.std.proofs.lemmas.List.{length-map, take_all}
-use Rattle.rows.specs.Rows.{constraint, constraints}
-use Rattle.elimination.specs.Lines.{lines}
-use Rattle.elimination.specs.Working.{carried}
+use Rattle.std.proofs.Common.{arith}
 use Rattle.elimination.proofs.Filled.{filled_more}
 use Rattle.elimination.proofs.filling.fill.Goals as goal
 

@@ -1,4 +1,4 @@
-use Rattle.std.proofs.Common.{◌≡◌, ℕ, suc, ◌-◌, List, Some, None, Ok, Err, Option, Result, sym, ap, ◌∙◌, arith, rules}
+use Rattle.std.proofs.Common.{◌≡◌, ℕ, suc, ◌-◌, List, Some, None, Err, Option, Result, sym, ap, ◌∙◌, arith, rules}
 use Rattle.std.proofs.lemmas.Result.{err_from_is_err_and}
 use Rattle.std.specs.Option.{option_map}
 use Rattle.std.specs.Result.{result_ok, result_map_both as mapped_ok}
@@ -11,7 +11,7 @@ use Rattle.elimination.specs.Lines.{lines}
 use Rattle.elimination.specs.Levels.{Levels, set_fader}
 use Rattle.elimination.specs.Working.{all_set}
 use Rattle.elimination.specs.Limiting.{levels_of}
-use Rattle.elimination.proofs.Mapped.{ok_before, err_before}
+use Rattle.elimination.proofs.Mapped.{err_before}
 use Rattle.elimination.proofs.levels.all_set.Goals as goal
 
 -- what a fader's setting says, as the levels of the working
@@ -20,10 +20,6 @@ said r = option_map levels_of (result_ok r)
 
 -- one fader more
 module _ (j k : ℕ) (t : List Line) (x : Levels) (r : Result Preset Beyond) (e : j ≡ suc k) (s : said r ≡ set_fader k t x) where
-  set_some : (p : Preset) → r ≡ Ok p → all_set k t (levels_of p) ≡ all_set j t x
-  set_some p h =
-      ap (λ (o : Option Levels). elim o [ Some z ↦ all_set k t z | None ↦ Err (number_beyond k) ]) (sym (ap said h) ∙ s) ∙ sym (ap (λ (m : ℕ). all_set m t x) e)
-
   set_none : (d : Beyond) → r ≡ Err d → Err (number_beyond k) ≡ all_set j t x
   set_none d h =
       ap (λ (o : Option Levels). elim o [ Some z ↦ all_set k t z | None ↦ Err (number_beyond k) ]) (sym (ap said h) ∙ s) ∙ sym (ap (λ (m : ℕ). all_set m t x) e)

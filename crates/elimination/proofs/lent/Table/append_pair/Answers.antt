@@ -1,11 +1,10 @@
 use Rattle.std.proofs.Common.{◌≡◌, ℕ, ◌+◌, true, false, List, get_or, set, Ok, Err, Option, sym, ap, ◌∙◌, subst, arith}
-use Rattle.std.proofs.lemmas.Bool.{and_parts}
 use Rattle.std.proofs.lemmas.Result.{err_from_is_err_and}
 use Rattle.std.specs.Option.{MatchOption}
 use Rattle.std.specs.Result.{result_ok}
 use Rattle.engine.specs.declared.fault.Fault.{Fault}
 use Rattle.elimination.specs.declared.cell.Cell.{Cell}
-use Rattle.elimination.specs.Table.{Line, sums, fits, combined, stands, coefficient, is_positive, is_negative}
+use Rattle.elimination.specs.Table.{Line, sums, fits, combined}
 use Rattle.elimination.specs.Lines.{line}
 use Rattle.elimination.specs.Appends.{Appends}
 use Rattle.elimination.proofs.Appending.{appends_none, appends_one, appends_full, appends_beyond, pairs_at_is}

@@ -1,4 +1,4 @@
-use Rattle.std.proofs.Common.{take, sym, refl, ap, ◌∙◌, arith}
+use Rattle.std.proofs.Common.{take, sym, ap, ◌∙◌, arith}
 use Rattle.elimination.specs.declared.cell.Cell.{Cell}
 use Rattle.elimination.specs.Table.{set_aside}
 use Rattle.elimination.specs.Lines.{line}
