@@ -1,5 +1,5 @@
 // A limit on one side, with the order in which limits on that side are chosen. Assumes nothing.
-ghost use Rattle.std.specs.Prelude.{◌≡◌, not, pos, false};
+ghost use Rattle.std.specs.Prelude.{◌≡◌, not};
 ghost use Rattle.elimination.specs.Limiting.{limit_of};
 
 use crate::limit::Limit;

@@ -1,5 +1,5 @@
 // The false row that gives the clash: of the fewest weights other than 0, the first among equals. Assumes nothing.
-ghost use Rattle.std.specs.Prelude.{◌≡◌, ◌≤◌, nat_lt, unsigned_abs};
+ghost use Rattle.std.specs.Prelude.{◌≡◌, ◌≤◌};
 ghost use Rattle.std.specs.Option.{option_map};
 ghost use Rattle.elimination.specs.Working.{is_false, support, chosen_false};
 ghost use Rattle.elimination.specs.Choosing.{rank, not_worse};

@@ -1,6 +1,6 @@
 // The limits that are found on a side, in the first places of an array. Assumes nothing; every value of the type keeps its invariant.
 ghost use Rattle.std.specs.Prelude.{◌≡◌, ◌≤◌, length};
-ghost use Rattle.elimination.specs.Table.{room as most_limits};
+ghost use Rattle.elimination.specs.Table.{room};
 
 use crate::bounding::Bounding;
 use crate::table::ROOM;
@@ -10,6 +10,6 @@ use crate::table::ROOM;
 pub struct Found<S> {
     pub limits: [Bounding<S>; ROOM],
     pub count: usize,
-    ghost places: { length limits ≡ most_limits },
-    ghost few: { count ≤ most_limits },
+    ghost places: { length limits ≡ room },
+    ghost few: { count ≤ room },
 }

@@ -21,6 +21,7 @@ pub fn lowest(numerator: i64, denominator: u64, strict: bool) -> Result<Limit, B
     requires { (0 < denominator) × (denominator < 2 ^ 63) }
     ensures { option_map limit_of (result_ok result) ≡ lowest numerator denominator strict }
 {
+    // there is one, since the denominator is positive
     let fraction = Fraction::new(numerator, denominator as i64).unwrap();
     let above = narrow(fraction.numerator).ok_or(Beyond)?;
     let below = narrow(fraction.denominator).ok_or(Beyond)?;

@@ -35,7 +35,7 @@ impl Table<'_> {
     }
 
     // Appends the sums of all pairs for a fader, outer and inner in table order.
-    // The loops are over places, since the table grows while they run.
+    // kept: loops over places, since the table grows while they run, and a label that carries the fault out of both, a rule of the project
     fn append_pairs(&mut self, fader: Fader) -> Result<(), Fault>
         ensures { Appended fader.index (pairs (uppers fader.index (held_lines self.old)) (lowers fader.index (held_lines self.old))) self.old result self.new }
     {
