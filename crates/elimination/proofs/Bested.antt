@@ -1,5 +1,5 @@
 -- The first best of a list by the order of its type, and the best limit of the working. Assumes nothing.
-use Rattle.std.proofs.Common.{◌≡◌, ℕ, Bool, true, false, cond, not, List, [], ◌∷◌, map, length, get_or, Some, None, sym, refl, ap, ◌∙◌, arith}
+use Rattle.std.proofs.Common.{◌≡◌, ℕ, Bool, true, false, cond, not, List, [], ◌∷◌, map, length, get_or, Some, sym, refl, ap, ◌∙◌, arith}
 use Rattle.std.specs.Cmp.{IsStrictWeakOrder}
 use Rattle.std.specs.List.{best_of}
 use Rattle.std.proofs.lemmas.List.MinMax.{IsStrictWeakOrder-from_at_least, IsFirstBest-from_best_of, IsFirstBest-unique}
@@ -30,10 +30,6 @@ module _ {X : Type 0} (g : X → Limit) (better : Limit → Limit → Bool)
   best_to x (y ∷ ys) =
       ap (λ (l : Limit). best_of better l (map g ys)) (ap (λ (b : Bool). cond b (g y) (g x)) (sym (not_not (better (g y) (g x)))) ∙ cond_to g (beats no_worse y x) y x)
       ∙ best_to (cond (beats no_worse y x) y x) ys
-
-  pub none_best : (xs : List X) → length xs ≡ 0 → None ≡ first_best better (map g xs)
-  none_best [] e = refl
-  none_best (x ∷ xs) e = absurd (omega arith)
 
   pub one_best : (xs : List X) (b : ℕ) (d : X) → FirstBest no_worse xs b → Some (g (get_or xs b d)) ≡ first_best better (map g xs)
   one_best [] b d f = absurd (omega (arith, f.within))

@@ -1,7 +1,7 @@
 -- A loop that collects the limits of the rows that pass a test. Assumes nothing.
-use Rattle.std.proofs.Common.{◌≡◌, ℕ, ◌+◌, ◌<◌, ◌≤◌, Bool, true, false, List, [], ◌∷◌, ◌++◌, map, length, get_or, take, drop, set, Some, None, filter, Option, sym, refl, ap, ◌∙◌, append_assoc}
+use Rattle.std.proofs.Common.{◌≡◌, ℕ, ◌+◌, ◌<◌, Bool, true, false, List, [], ◌∷◌, ◌++◌, length, get_or, drop, Some, None, filter, Option, sym, refl, ap, ◌∙◌, append_assoc}
 use Rattle.std.specs.Option.{option_map}
-use Rattle.std.proofs.lemmas.List.{append-nil, at_drop_more, at_drop_all, take_more_set, map_push}
+use Rattle.std.proofs.lemmas.List.{at_drop_more}
 use Rattle.std.proofs.lemmas.Bool.{cond-true, cond-false}
 use Rattle.elimination.specs.declared.cell.Cell.{Cell}
 use Rattle.elimination.specs.Table.{Line}
@@ -11,10 +11,6 @@ use Rattle.elimination.specs.Levels.{Limit, also, limits}
 -- what is found, before what is still to be found
 abbrev pub onto : List Limit → Option (List Limit) → Option (List Limit)
 onto ls o = option_map (λ ms. ls ++ ms) o
-
-pub onto_none : (o : Option (List Limit)) → onto [] o ≡ o
-onto_none None = refl
-onto_none (Some ms) = refl
 
 onto_also : (ls : List Limit) (l : Limit) (o : Option (List Limit)) → onto ls (also (Some l) o) ≡ onto (ls ++ l ∷ []) o
 onto_also ls l None = refl
@@ -28,9 +24,6 @@ module _ (f : Line → Option Limit) (p : Line → Bool) where
   taken : (c : Cell) (t : List Cell) → p (line c) ≡ true → gathered (c ∷ t) ≡ also (f (line c)) (gathered t)
   taken c t e = ap (limits f) (cond-true (p (line c)) (line c ∷ filter p (lines t)) (filter p (lines t)) e)
 
-  pub all_found : (ls : List Limit) (t : List Cell) (i : ℕ) → length t ≤ i → onto ls (gathered (drop i t)) ≡ Some ls
-  all_found ls t i h = ap (onto ls) (at_drop_all gathered t i h) ∙ ap Some (append-nil ls)
-
   -- one turn, at the row c of the table
   module _ (t : List Cell) (i : ℕ) (c : Cell) (h : i < length t) (is : c ≡ get_or t i c) where
     next : gathered (drop i t) ≡ gathered (c ∷ drop (i + 1) t)
@@ -41,11 +34,7 @@ module _ (f : Line → Option Limit) (p : Line → Bool) where
         let rest = filter p (lines (drop (i + 1) t)) in
         ap (onto ls) (next ∙ ap (limits f) (cond-false (p (line c)) (line c ∷ rest) rest e))
 
-    pub given_up : (ls : List Limit) → p (line c) ≡ true → None ≡ f (line c) → onto ls (gathered (drop i t)) ≡ None
-    given_up ls e s = ap (onto ls) (next ∙ taken c (drop (i + 1) t) e ∙ ap (λ (o : Option Limit). also o (gathered (drop (i + 1) t))) (sym s))
-
-    pub one_more : {X : Type 0} (g : X → Limit) (found : List X) (n : ℕ) (y : X) → n < length found → p (line c) ≡ true → Some (g y) ≡ f (line c) → onto (map g (take n found)) (gathered (drop i t)) ≡ onto (map g (take (n + 1) (set found n y))) (gathered (drop (i + 1) t))
-    one_more g found n y k e s =
-        ap (onto (map g (take n found))) (next ∙ taken c (drop (i + 1) t) e ∙ ap (λ (o : Option Limit). also o (gathered (drop (i + 1) t))) (sym s))
-        ∙ onto_also (map g (take n found)) (g y) (gathered (drop (i + 1) t))
-        ∙ sym (ap (λ (ls : List Limit). onto ls (gathered (drop (i + 1) t))) (ap (map g) (take_more_set found n y k) ∙ map_push g (take n found) y))
+    pub one_more : (ls : List Limit) (l : Limit) → p (line c) ≡ true → Some l ≡ f (line c) → onto ls (gathered (drop i t)) ≡ onto (ls ++ l ∷ []) (gathered (drop (i + 1) t))
+    one_more ls l e s =
+        ap (onto ls) (next ∙ taken c (drop (i + 1) t) e ∙ ap (λ (o : Option Limit). also o (gathered (drop (i + 1) t))) (sym s))
+        ∙ onto_also ls l (gathered (drop (i + 1) t))

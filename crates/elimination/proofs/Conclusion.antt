@@ -25,9 +25,6 @@ verdict_at : (count : ℕ) (rows : List Constraint) (o : Option ℕ) → first_e
     → elimination_verdict count rows ≡ (elim o [ Some i ↦ Verdict.fault (form_not_taken i) | None ↦ worked_out count rows (all_eliminated count 0 (carried 0 rows)) ])
 verdict_at count rows o e = ap (λ (x : Option ℕ). elim x [ Some i ↦ Verdict.fault (form_not_taken i) | None ↦ worked_out count rows (all_eliminated count 0 (carried 0 rows)) ]) e
 
-pub verdict_form : (count : ℕ) (rows : List Constraint) (i : ℕ) → first_equation 0 rows ≡ Some i → elimination_verdict count rows ≡ Verdict.fault (form_not_taken i)
-verdict_form count rows i e = verdict_at count rows (Some i) e
-
 pub verdict_worked : (count : ℕ) (rows : List Constraint) (r : Result (List Line) Fault) → first_equation 0 rows ≡ None → all_eliminated count 0 (carried 0 rows) ≡ r → elimination_verdict count rows ≡ worked_out count rows r
 verdict_worked count rows r e f = verdict_at count rows None e ∙ ap (worked_out count rows) f
 

@@ -1,5 +1,7 @@
 -- The choice of the first best by a rank over the whole table is the choice among the false rows. Assumes nothing.
 use Rattle.std.proofs.Common.{◌≡◌, ℕ, ◌≤◌, Bool, true, false, cond, not, ltb, leb, List, [], ◌∷◌, length, get_or, Some, None, filter, Option, sym, refl, ap, ◌∙◌, arith}
+use Rattle.std.specs.Bool.{then_some}
+use Rattle.std.specs.Option.{option_map}
 use Rattle.std.specs.List.{best_of}
 use Rattle.std.proofs.lemmas.List.MinMax.{IsStrictWeakOrder-from_at_least, IsFirstBest-from_best_of, IsFirstBest-unique}
 use Rattle.std.proofs.lemmas.List.Sums.{count_by-le-length}
@@ -104,6 +106,14 @@ whole xs a = by (is_false (line a)) refl
     by true p = from_false xs a p ∙ ap (first_best fewer) (sym (kept_yes a xs p))
     by false p = from_other xs a p ∙ ap (first_best fewer) (sym (kept_other a xs p))
 
+-- the filter that keeps a false row
+pub kept_outcome : (b : Bool) (c : Cell) (r : Option Cell) → b ≡ is_false (line c) → r ≡ then_some b c → option_map line r ≡ outcome c
+kept_outcome b c r e h = ap (option_map line) h ∙ by b ∙ ap (λ (t : Bool). cond t (Some (line c)) None) e
+  where
+    by : (t : Bool) → option_map line (then_some t c) ≡ cond t (Some (line c)) None
+    by true = refl
+    by false = refl
+
 -- the row that the place of the first best gives
 pub false_chosen : (t : List Cell) (b : ℕ) (c : Cell) → FirstBest not_worse t b → c ≡ get_or t b c → outcome c ≡ chosen_false (lines t)
 false_chosen [] b c f e = absurd (omega (arith, f.within))
@@ -114,7 +124,3 @@ false_chosen (a ∷ t) b c f e =
   where
     same : {x y : Cell} → ◌≡◌ {A = Option Cell} (Some x) (Some y) → x ≡ y
     same r = cc
-
-pub none_chosen : (t : List Cell) → length t ≡ 0 → None ≡ chosen_false (lines t)
-none_chosen [] e = refl
-none_chosen (c ∷ t) e = absurd (omega arith)

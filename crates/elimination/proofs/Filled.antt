@@ -1,6 +1,7 @@
 -- The list of rows, read and written from place to place. Assumes nothing.
-use Rattle.std.proofs.Common.{◌≡◌, ℕ, ◌+◌, ◌<◌, ◌≤◌, Bool, cond, List, [], ◌∷◌, ◌++◌, length, get_or, take, drop, set, Some, None, sym, ap, ◌∙◌, arith}
-use Rattle.std.proofs.lemmas.List.{at_drop_more, at_drop_all, take_more, take_more_set, take_all, length-map, map-append}
+use Rattle.std.proofs.Common.{◌≡◌, ℕ, ◌+◌, ◌<◌, cond, List, [], ◌∷◌, ◌++◌, length, get_or, take, set, Some, Option, refl, sym, ap, ◌∙◌, arith}
+use Rattle.std.proofs.lemmas.List.{take_more, take_more_set, length-map, map-append}
+use Rattle.std.specs.List.{position_from}
 use Rattle.rows.specs.declared.row.Row.{Row}
 use Rattle.rows.specs.Rows.{Constraint, constraint, constraints}
 use Rattle.rows.proofs.Firsts.{constraint_at, within_constraints}
@@ -9,16 +10,10 @@ use Rattle.elimination.specs.Table.{Line}
 use Rattle.elimination.specs.Lines.{line, lines}
 use Rattle.elimination.specs.Working.{first_equation, is_equation, listed_line, carried}
 
--- the row r at place i, which is an equation or not
-pub equation_at : (rows : List Row) (i : ℕ) (r : Row) (b : Bool) → i < length rows → r ≡ get_or rows i r → is_equation r.kind ≡ b
-    → first_equation i (drop i (constraints rows)) ≡ cond b (Some i) (first_equation (i + 1) (drop (i + 1) (constraints rows)))
-equation_at rows i r b h e f =
-    at_drop_more (first_equation i) (constraints rows) i (constraint r) (within_constraints rows i r h e)
-    ∙ ap (λ (x : Constraint). cond (is_equation x.kind) (Some i) (first_equation (i + 1) (drop (i + 1) (constraints rows)))) (constraint_at rows i r h e)
-    ∙ ap (λ (t : Bool). cond t (Some i) (first_equation (i + 1) (drop (i + 1) (constraints rows)))) f
-
-pub no_equation : (rows : List Row) (i : ℕ) → length rows ≤ i → first_equation i (drop i (constraints rows)) ≡ None
-no_equation rows i h = at_drop_all (first_equation i) (constraints rows) i (omega (arith, length-map rows constraint))
+-- the place of the first equation, from place i on
+pub equation_place : (rows : List Row) (i : ℕ) → position_from (λ r. is_equation r.kind) i rows ≡ first_equation i (constraints rows)
+equation_place [] i = refl
+equation_place (r ∷ rows) i = ap (λ (o : Option ℕ). cond (is_equation r.kind) (Some i) o) (equation_place rows (i + 1))
 
 -- one row more at the end
 carried_push : (xs : List Constraint) (i : ℕ) (r : Constraint) → carried i (xs ++ r ∷ []) ≡ carried i xs ++ listed_line (i + length xs) r ∷ []

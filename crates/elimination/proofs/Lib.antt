@@ -4,8 +4,7 @@ pub mod PairSteps
 pub mod Retiring
 pub mod FalseRows
 pub mod Filled
-pub mod Remains
-pub mod Leasts
 pub mod Collecting
 pub mod Bested
 pub mod Conclusion
+pub mod Mapped

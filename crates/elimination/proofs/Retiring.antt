@@ -44,13 +44,6 @@ module _ (k held m : ℕ) (o u v : List Cell) (hr : held ≤ room) (g : room ≤
       ∙ sym (map-append line (take held v) (drop held (take m v)))
       ∙ ap lines (ap (λ (x : List Cell). x ++ drop held (take m v)) (sym (take-take held m v a.0)) ∙ take-append-drop held (take m v)))
 
-pub eliminated_err : (k held : ℕ) (o u : List Cell) (f : Fault) → held ≤ room → room ≤ length o
-    → Appends k held (pairs (uppers k (lines (take held o))) (lowers k (lines (take held o)))) o (Err f) u → eliminated k (lines (take held o)) ≡ Err f
-eliminated_err k held o u f hr g a =
-    let T = lines (take held o) in
-    let n : length T ≡ held = length-map (take held o) line ∙ length-take-le held o (omega arith) in
-    ap (λ (x : ℕ). joining (map (set_aside k) T) (sums k x (pairs (uppers k T) (lowers k T)))) n ∙ ap (joining (map (set_aside k) T)) a
-
 -- the stages, the first of which came to r
 after_first : ℕ → ℕ → Result (List Line) Fault → Result (List Line) Fault
 after_first m k r = elim r [ Ok u ↦ all_eliminated m (k + 1) u | Err f ↦ Err f ]
@@ -68,6 +61,3 @@ stage_ok count k t u h e = stages_by count k t (Ok u) h e
 pub stage_err : (count k : ℕ) (t : List Line) (f : Fault) → k < count → eliminated k t ≡ Err f → all_eliminated (count - k) k t ≡ Err f
 unfolding after_first
 stage_err count k t f h e = stages_by count k t (Err f) h e
-
-pub no_stage : (count k : ℕ) (t : List Line) → count ≤ k → all_eliminated (count - k) k t ≡ Ok t
-no_stage count k t h = let n : count - k ≡ 0 = omega arith in ap (λ (x : ℕ). all_eliminated x k t) n

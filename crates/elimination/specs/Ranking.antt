@@ -4,10 +4,9 @@ use Rattle.std.proofs.Common.{arith}
 use borrow.Author.Differences.{lt-true, lt-false}
 use Rattle.std.proofs.lemmas.Bool.{false≢true, not-true, not-false, not_from_false}
 use Rattle.integers.proofs.Linear.{linear}
-use Rattle.elimination.specs.declared.tighter.Upper.{Upper}
-use Rattle.elimination.specs.declared.tighter.Lower.{Lower}
+use Rattle.elimination.specs.declared.limit.Limit.{Limit as Held}
 use Rattle.elimination.specs.Levels.{Limit, better_upper, better_lower}
-use Rattle.elimination.specs.Tightest.{upper_of, lower_of}
+use Rattle.elimination.specs.Limiting.{limit_of}
 use Rattle.elimination.specs.Unders.{Under, ex, cross}
 use Rattle.elimination.specs.Between.{Proper, compared, denied}
 
@@ -68,19 +67,31 @@ module _ (x y z : Limit) (px : Proper x) (py : Proper y) (pz : Proper z) where
       (denied (z.numerator *ℤ pos y.denominator) (y.numerator *ℤ pos z.denominator) z.strict y.strict q)
       (denied (y.numerator *ℤ pos x.denominator) (x.numerator *ℤ pos y.denominator) y.strict x.strict p))
 
+-- by a test for the better limit: of any two limits one is not worse than the other, and not worse than not worse is not worse
+abbrev pub Total : (Limit → Limit → Bool) → Type 0
+Total better = (x y : Held) → not (better (limit_of y) (limit_of x)) ≡ false → not (better (limit_of x) (limit_of y)) ≡ true
+
+abbrev pub Chain : (Limit → Limit → Bool) → Type 0
+Chain better = (x y z : Held) → not (better (limit_of y) (limit_of x)) ≡ true → not (better (limit_of z) (limit_of y)) ≡ true → not (better (limit_of z) (limit_of x)) ≡ true
+
 -- the laws of the choice
-pub uppers_total : (x y : Upper) → not (better_upper (upper_of y) (upper_of x)) ≡ false → not (better_upper (upper_of x) (upper_of y)) ≡ true
-uppers_total x y e = not_from_false (better_upper (upper_of x) (upper_of y)) (upper_one_way (upper_of y) (upper_of x) (not-false (better_upper (upper_of y) (upper_of x)) e))
+module _ (better : Limit → Limit → Bool) where
+  total_from : ((x y : Limit) → better x y ≡ true → better y x ≡ false) → Total better
+  total_from h x y e = not_from_false (better (limit_of x) (limit_of y)) (h (limit_of y) (limit_of x) (not-false (better (limit_of y) (limit_of x)) e))
 
-pub uppers_chain : (x y z : Upper) → not (better_upper (upper_of y) (upper_of x)) ≡ true → not (better_upper (upper_of z) (upper_of y)) ≡ true → not (better_upper (upper_of z) (upper_of x)) ≡ true
-uppers_chain x y z p q =
-    not_from_false (better_upper (upper_of z) (upper_of x))
-    (upper_chain (upper_of x) (upper_of y) (upper_of z) x.0.positive y.0.positive z.0.positive (not-true (better_upper (upper_of y) (upper_of x)) p) (not-true (better_upper (upper_of z) (upper_of y)) q))
+  chain_from : ((x y z : Limit) → Proper x → Proper y → Proper z → better y x ≡ false → better z y ≡ false → better z x ≡ false) → Chain better
+  chain_from h x y z p q =
+      not_from_false (better (limit_of z) (limit_of x))
+      (h (limit_of x) (limit_of y) (limit_of z) x.positive y.positive z.positive (not-true (better (limit_of y) (limit_of x)) p) (not-true (better (limit_of z) (limit_of y)) q))
 
-pub lowers_total : (x y : Lower) → not (better_lower (lower_of y) (lower_of x)) ≡ false → not (better_lower (lower_of x) (lower_of y)) ≡ true
-lowers_total x y e = not_from_false (better_lower (lower_of x) (lower_of y)) (lower_one_way (lower_of y) (lower_of x) (not-false (better_lower (lower_of y) (lower_of x)) e))
+pub uppers_total : Total better_upper
+uppers_total = total_from better_upper upper_one_way
 
-pub lowers_chain : (x y z : Lower) → not (better_lower (lower_of y) (lower_of x)) ≡ true → not (better_lower (lower_of z) (lower_of y)) ≡ true → not (better_lower (lower_of z) (lower_of x)) ≡ true
-lowers_chain x y z p q =
-    not_from_false (better_lower (lower_of z) (lower_of x))
-    (lower_chain (lower_of x) (lower_of y) (lower_of z) x.0.positive y.0.positive z.0.positive (not-true (better_lower (lower_of y) (lower_of x)) p) (not-true (better_lower (lower_of z) (lower_of y)) q))
+pub uppers_chain : Chain better_upper
+uppers_chain = chain_from better_upper upper_chain
+
+pub lowers_total : Total better_lower
+lowers_total = total_from better_lower lower_one_way
+
+pub lowers_chain : Chain better_lower
+lowers_chain = chain_from better_lower lower_chain

@@ -1,19 +1,29 @@
--- The limits of one fader in a table, and the best of them. Assumes nothing.
-use Rattle.std.specs.Prelude.{ℕ, List, Option}
+-- The limits of one fader in a table, and the best of them: on a side that is given by what distinguishes it, and on the two sides. Assumes nothing.
+use Rattle.std.specs.Prelude.{ℕ, ◌*◌, Bool, ◌&&◌, List, map, take, ℤ, filter, Option}
 use Rattle.std.specs.Option.{option_map}
 use Rattle.rows.specs.declared.preset.Preset.{Preset}
 use Rattle.elimination.specs.declared.cell.Cell.{Cell}
-use Rattle.elimination.specs.declared.tighter.Upper.{Upper}
-use Rattle.elimination.specs.declared.tighter.Lower.{Lower}
+use Rattle.elimination.specs.declared.found.Found.{Found}
+use Rattle.elimination.specs.Table.{Line, coefficient, size}
 use Rattle.elimination.specs.Lines.{lines}
-use Rattle.elimination.specs.Levels.{Limit, above, below, upper_limit, lower_limit, limits, better_upper, better_lower, first_best}
+use Rattle.elimination.specs.Levels.{Levels, Limit, is_for, remaining, lowest, above, below, upper_limit, lower_limit, limits, better_upper, better_lower, first_best}
 use Rattle.elimination.specs.Limiting.{limit_of, levels_of}
 
-abbrev pub upper_of : Upper → Limit
-upper_of u = limit_of u.0
+-- the limit whose numerator is made of what the row's side leaves for the fader
+abbrev pub limit_by : (ℤ → ℤ) → ℕ → Levels → Line → Option Limit
+limit_by turned k x r = lowest (turned (remaining x r)) (size k r * x.denominator) r.strict
 
-abbrev pub lower_of : Lower → Limit
-lower_of l = limit_of l.0
+-- a row that is set aside for fader k, with a coefficient that limits it
+abbrev pub bounds_by : (ℤ → Bool) → ℕ → Line → Bool
+bounds_by test k r = is_for k r.aside && test (coefficient r k)
+
+-- the limits on a side, in table order, if all are within G
+abbrev pub limits_by : (ℤ → Bool) → (ℤ → ℤ) → ℕ → Preset → List Cell → Option (List Limit)
+limits_by test turned k p t = limits (limit_by turned k (levels_of p)) (filter (bounds_by test k) (lines t))
+
+-- the best of them, if there is any
+abbrev pub best_by : (ℤ → Bool) → (ℤ → ℤ) → (Limit → Limit → Bool) → ℕ → Preset → List Cell → Option (Option Limit)
+best_by test turned better k p t = option_map (first_best better) (limits_by test turned k p t)
 
 -- the limits from above and from below, in table order, if all are within G
 abbrev pub upper_limits : ℕ → Preset → List Cell → Option (List Limit)
@@ -28,3 +38,7 @@ best_upper k p t = option_map (first_best better_upper) (upper_limits k p t)
 
 abbrev pub best_lower : ℕ → Preset → List Cell → Option (Option Limit)
 best_lower k p t = option_map (first_best better_lower) (lower_limits k p t)
+
+-- the limits that are found, in order
+abbrev pub found_limits : {S : Type 0} → Found S → List Limit
+found_limits f = map (λ b. limit_of b.limit) (take f.count f.limits)

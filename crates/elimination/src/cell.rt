@@ -6,6 +6,7 @@ pub struct Cell {
     pub row: Carried,
     // below its side, and not only at most
     pub strict: bool,
-    // the fader that it is set aside for; none while it stands
+    // the fader that it is set aside for; none while it stands.
+    // kept: a number and no `Fader`, which would ask more of a table that is lent, whose rows may hold any
     pub aside: Option<u8>,
 }

@@ -10,9 +10,9 @@ ghost use Rattle.elimination.specs.Soundness;
 
 use crate::cell::Cell;
 use crate::choosing::choose_false;
-use crate::filling::{fill, first_equation};
+use crate::filling::first_equation;
+use crate::lent::Table;
 use crate::levels::all_set;
-use crate::pairing::eliminate_all;
 use crate::table::ROOM;
 use engine::fault::FORM;
 use engine::{Answer, Engine, Fault, Refusal, State};
@@ -56,9 +56,9 @@ fn work_out(state: &State, table: &mut [Cell]) -> Result<Answer, Fault>
     if let Some(i) = first_equation(rows) {
         return Err(Fault::new(FORM, i as u8));
     }
-    fill(table, rows);
-    let held = eliminate_all(table, rows.len(), state.count as usize)?;
-    conclude(&table[..held], state.count)
+    let mut filled = Table::filled(table, rows);
+    filled.eliminate_all(state.count)?;
+    conclude(filled.rows(), state.count)
 }
 
 impl Engine for Elimination {

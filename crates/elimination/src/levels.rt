@@ -1,8 +1,8 @@
 // The way back: each fader set within the limits of the rows set aside for it, from the highest down.
-// Assumes, as each function requires, that the faders are among the six and that the table has at most 256 rows.
+// Assumes, where a function requires it, that the table has at most 256 rows.
 ghost use Rattle.std.specs.Prelude.{◌≡◌, ◌<◌, ◌≤◌, length};
 ghost use Rattle.std.specs.Option.{option_map};
-ghost use Rattle.std.specs.Result.{result_map_both as mapped_ok};
+ghost use Rattle.std.specs.Result.{result_ok, result_map_both as mapped_ok};
 ghost use Rattle.rows.specs.Limits.{faders};
 ghost use Rattle.elimination.specs.Lines.{lines};
 ghost use Rattle.elimination.specs.Table.{room};
@@ -10,29 +10,24 @@ ghost use Rattle.elimination.specs.Levels.{set_fader};
 ghost use Rattle.elimination.specs.Working.{all_set, at_rest};
 ghost use Rattle.elimination.specs.Limiting.{levels_of};
 
-use crate::bests::{best_lower, best_upper};
 use crate::cell::Cell;
-use crate::raising::with_level;
+use crate::limit::Beyond;
+use crate::setting::Setting;
+use crate::side::{Above, Below};
 use crate::values::value;
 use engine::Fault;
 use engine::fault::NUMBER;
-use rows::{FADERS, Preset};
+use rows::{FADERS, Fader, Preset};
 
-// Fader k set, with the levels of the faders above it given; none where a number is beyond G.
-pub fn set_fader(table: &[Cell], k: u8, levels: &Preset) -> Option<Preset>
-    requires { (k < faders) × (length table.now ≤ room) }
-    ensures { option_map levels_of result ≡ set_fader k (lines table.now) (levels_of levels.now) }
-{
-    let Some(lower) = best_lower(table, k, levels) else {
-        return None;
-    };
-    let Some(upper) = best_upper(table, k, levels) else {
-        return None;
-    };
-    let Some(v) = value(lower, upper) else {
-        return None;
-    };
-    with_level(k, levels, &v)
+impl Setting<'_> {
+    // The levels with the fader set, unless a number is beyond G.
+    fn set_fader(&self) -> Result<Preset, Beyond>
+        ensures { option_map levels_of (result_ok result) ≡ set_fader self.now.fader.index (lines self.now.table.now) (levels_of self.now.levels.now) }
+    {
+        let lower = self.best_limit::<Below>()?;
+        let upper = self.best_limit::<Above>()?;
+        self.with_level(&value(lower, upper)?)
+    }
 }
 
 // Every fader at 0.
@@ -51,11 +46,13 @@ pub fn all_set(table: &[Cell], count: u8) -> Result<Preset, Fault>
     ensures { mapped_ok levels_of (λ f. f) result ≡ all_set count (lines table.now) at_rest }
 {
     let mut levels = at_rest();
-    for k in (0..count).rev() {
-        match set_fader(table, k, &levels) {
-            Some(next) => levels = next,
-            None => return Err(Fault::new(NUMBER, k)),
-        }
+    for index in (0..count).rev() {
+        let setting = Setting {
+            table,
+            fader: Fader { index },
+            levels: &levels,
+        };
+        levels = setting.set_fader().map_err(|_| Fault::new(NUMBER, index))?;
     }
     Ok(levels)
 }

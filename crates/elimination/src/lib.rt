@@ -2,16 +2,21 @@
 #![tactic(auto)]
 
 mod bests;
+mod bounding;
 pub mod cell;
 mod choosing;
 pub mod eliminating;
 mod filling;
+mod found;
+mod lent;
 mod levels;
-mod limit;
+pub mod limit;
 mod limits;
 mod pairing;
 mod raising;
 pub mod rightness;
+mod setting;
+pub mod side;
 pub mod table;
 #[cfg(test)]
 mod tests;

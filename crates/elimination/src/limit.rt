@@ -12,3 +12,7 @@ pub struct Limit {
     ghost positive: { 0 < denominator },
     ghost bounded: { denominator ≤ largest },
 }
+
+// A number is beyond G.
+#[derive(Clone, Copy, PartialEq, Eq, Debug)]
+pub struct Beyond;

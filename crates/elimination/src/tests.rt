@@ -9,24 +9,18 @@ use std::process::Abort;
 use std::test::Fail;
 
 fn row(kind: Kind, a: i32, b: i32, side: i32) -> Result<Row, Fail> {
-    match Row::new(kind, [a, b, 0, 0, 0, 0], side) {
-        Some(row) => Ok(row),
-        None => Err(Fail::new("a number beyond G")),
-    }
+    Ok(Row::new(kind, [a, b, 0, 0, 0, 0], side).ok_or("a number beyond G")?)
 }
 
 fn taken(reply: Result<(), Refusal>) -> Result<(), Fail> {
-    match reply {
-        Ok(()) => Ok(()),
-        Err(_) => Err(Fail::new("refused")),
-    }
+    reply.map_err(|_| Fail::new("refused"))
 }
 
 // The engine with its answer to the rows, or the fault.
 fn decide(engine: &mut Elimination, count: u8, rows: &[Row]) -> Result<Option<Fault>, Fail> {
     taken(engine.start(count))?;
-    for i in 0..rows.len() {
-        taken(engine.take(&rows[i]))?;
+    for row in rows {
+        taken(engine.take(row))?;
     }
     let mut table = [Cell::blank(); ROOM];
     match engine.decide(&mut table) {
@@ -37,10 +31,7 @@ fn decide(engine: &mut Elimination, count: u8, rows: &[Row]) -> Result<Option<Fa
 }
 
 fn number(reply: Result<i32, Refusal>) -> Result<i32, Fail> {
-    match reply {
-        Ok(n) => Ok(n),
-        Err(_) => Err(Fail::new("no such answer")),
-    }
+    reply.map_err(|_| Fail::new("no such answer"))
 }
 
 fn check_preset(
@@ -52,13 +43,11 @@ fn check_preset(
 ) -> Result<(), Fail> {
     assert_eq!(rt; number(engine.numerator(0))?, a);
     assert_eq!(rt; number(engine.numerator(1))?, b);
-    match engine.denominator() {
-        Ok(d) => {
-            assert_eq!(rt; d, denominator);
-            Ok(())
-        },
-        Err(_) => Err(Fail::new("no preset")),
-    }
+    assert_eq!(rt;
+        engine.denominator().map_err(|_| Fail::new("no preset"))?,
+        denominator
+    );
+    Ok(())
 }
 
 #[test]
@@ -120,8 +109,6 @@ fn full_table(rt: HostRuntime) -> Result<(), Fail> {
     assert_eq!(rt; decide(&mut engine, 2, &rows)?, Some(Fault::new(TABLE, 1)));
     assert!(rt; engine.denominator().is_err());
     let mut table = [Cell::blank(); ROOM];
-    match engine.decide(&mut table[1..]) {
-        Err(Refusal::ShortTable) => Ok(()),
-        _ => Err(Fail::new("a short table is not refused")),
-    }
+    assert!(rt; matches!(&engine.decide(&mut table[1..]), Err(Refusal::ShortTable)));
+    Ok(())
 }

@@ -1,38 +1,29 @@
 // The level that is chosen between the limits of a fader. Assumes nothing.
-ghost use Rattle.std.specs.Prelude.{◌≡◌, pos, ◌+ℤ◌, ◌-ℤ◌, if◌then◌else◌, Some};
+ghost use Rattle.std.specs.Prelude.{◌≡◌, if◌then◌else◌, Some};
 ghost use Rattle.std.specs.Option.{option_map};
+ghost use Rattle.std.specs.Result.{result_ok};
 ghost use Rattle.elimination.specs.Levels.{value};
 ghost use Rattle.elimination.specs.Limiting.{limit_of};
 
-use crate::limit::Limit;
+use crate::limit::{Beyond, Limit};
 use crate::limits::lowest;
+use crate::side::{Above, Below, Side};
 use crate::tighter::across;
 
-// The numerator of a lower limit, and of 1 more where the limit may not be reached.
-fn above(l: &Limit) -> i64
-    ensures { result ≡ (if l.now.strict then l.now.numerator +ℤ pos l.now.denominator else l.now.numerator) }
+// The numerator of a limit, and that of the value 1 beyond where the limit may not be reached.
+fn nearest<S: Side>(limit: &Limit) -> i64
+    ensures { result ≡ (if limit.now.strict then S.beyond (limit_of limit.now) else limit.now.numerator) }
 {
-    if l.strict {
-        l.numerator as i64 + l.denominator as i64
+    if limit.strict {
+        S::beyond(limit)
     } else {
-        l.numerator as i64
+        limit.numerator as i64
     }
 }
 
-// The numerator of an upper limit, and of 1 less where the limit may not be reached.
-fn below(u: &Limit) -> i64
-    ensures { result ≡ (if u.now.strict then u.now.numerator -ℤ pos u.now.denominator else u.now.numerator) }
-{
-    if u.strict {
-        u.numerator as i64 - u.denominator as i64
-    } else {
-        u.numerator as i64
-    }
-}
-
-// Half the sum of two limits; none where a number is beyond G.
-fn middle(l: &Limit, u: &Limit) -> Option<Limit>
-    ensures { option_map limit_of result ≡ value (Some (limit_of l.now)) (Some (limit_of u.now)) }
+// Half the sum of two limits, unless a number is beyond G.
+fn middle(l: &Limit, u: &Limit) -> Result<Limit, Beyond>
+    ensures { option_map limit_of (result_ok result) ≡ value (Some (limit_of l.now)) (Some (limit_of u.now)) }
 {
     lowest(
         across(l, u) + across(u, l),
@@ -41,18 +32,14 @@ fn middle(l: &Limit, u: &Limit) -> Option<Limit>
     )
 }
 
-// The value between the best limits; none where a number is beyond G.
-pub fn value(lower: Option<Limit>, upper: Option<Limit>) -> Option<Limit>
-    ensures { option_map limit_of result ≡ value (option_map limit_of lower) (option_map limit_of upper) }
+// The value between the best limits, unless a number is beyond G.
+pub fn value(lower: Option<Limit>, upper: Option<Limit>) -> Result<Limit, Beyond>
+    ensures { option_map limit_of (result_ok result) ≡ value (option_map limit_of lower) (option_map limit_of upper) }
 {
-    match lower {
-        None => match upper {
-            None => lowest(0, 1, false),
-            Some(u) => lowest(below(&u), u.denominator as u64, false),
-        },
-        Some(l) => match upper {
-            None => lowest(above(&l), l.denominator as u64, false),
-            Some(u) => middle(&l, &u),
-        },
+    match (lower, upper) {
+        (None, None) => lowest(0, 1, false),
+        (None, Some(u)) => lowest(nearest::<Above>(&u), u.denominator as u64, false),
+        (Some(l), None) => lowest(nearest::<Below>(&l), l.denominator as u64, false),
+        (Some(l), Some(u)) => middle(&l, &u),
     }
 }

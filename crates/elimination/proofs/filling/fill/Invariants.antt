@@ -5,4 +5,4 @@ use Rattle.elimination.specs.Working.{carried}
 use Rattle.elimination.proofs.filling.fill.Given as goal
 
 abbrev pub invariant-loop-i : goal.invariant-loop-i
-invariant-loop-i l = lines (take l.i l.table) ≡ carried 0 (take l.i (constraints l.rows))
+invariant-loop-i l = lines (take l.i l.cells) ≡ carried 0 (take l.i (constraints l.rows))

@@ -1,18 +1,14 @@
-use Rattle.std.proofs.Common.{true, false, sym, ap, ◌∙◌}
+use Rattle.std.proofs.Common.{◌∙◌, rules, tests}
+use Rattle.std.proofs.lemmas.Iterator.{YieldsList-from_slice}
+use Rattle.std.proofs.lemmas.Iterator.Search.{position_from_yields_List}
+use Rattle.std.proofs.lemmas.Iterator.Adapters.{position_from-zero}
 use Rattle.rows.specs.declared.row.Row.{Row}
 use Rattle.elimination.specs.Working.{is_equation}
-use Rattle.elimination.proofs.Filled.{equation_at, no_equation}
+use Rattle.elimination.proofs.Filled.{equation_place}
 use Rattle.elimination.proofs.filling.first_equation.Goals as goal
 
-pub returns-then-is_equation : goal.returns-then-is_equation
-returns-then-is_equation c =
-    let r = c.index-rows-i.result in
-    sym (equation_at c.args.rows.now c.loop-i.i r true c.loop-i-test.true c.index-rows-i.is (ap (λ (x : Row). is_equation x.kind) c.index-rows-i.is ∙ sym c.is_equation.ensures ∙ c.if-is_equation.true)) ∙ c.loop-i.invariant
-
-pub loop-i-preserved : goal.loop-i-preserved
-loop-i-preserved c =
-    let r = c.index-rows-i.result in
-    sym (equation_at c.args.rows.now c.loop-i.i r false c.loop-i-test.true c.index-rows-i.is (ap (λ (x : Row). is_equation x.kind) c.index-rows-i.is ∙ sym c.is_equation.ensures ∙ c.if-is_equation.false)) ∙ c.loop-i.invariant
-
 pub returns : goal.returns
-returns c = sym (no_equation c.args.rows.now c.loop-i.i c.loop-i-test.false) ∙ c.loop-i.invariant
+returns c =
+    let rows = c.args.rows.now in
+    let test = λ (r : Row). is_equation r.kind in
+    position_from_yields_List test _ _ c.position.result c.position.ensures.ran (YieldsList-from_slice rows cc) (λ x b q k. search (rules, tests)) ∙ position_from-zero test rows ∙ equation_place rows 0

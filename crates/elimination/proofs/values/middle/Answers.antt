@@ -19,9 +19,6 @@ module _ (l u : Limit) where
   sum_fits : (p q : ℤ) → p ≡ l.numerator *ℤ pos u.denominator → q ≡ u.numerator *ℤ pos l.denominator → SFits w64 (p +ℤ q)
   sum_fits p q a b = rw (a, b) (two_products l.numerator (pos u.denominator) u.numerator (pos l.denominator) l.within u.bounded u.within l.bounded)
 
-pub overflow_mul-l-2 : goal.overflow_mul-l-2
-overflow_mul-l-2 c = omega (arith, small c.args.l.now c.args.u.now)
-
 pub lowest-requires : goal.lowest-requires
 lowest-requires c = (omega (arith, some c.args.l.now c.args.u.now), omega (arith, small c.args.l.now c.args.u.now))
 
