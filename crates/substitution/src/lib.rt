@@ -11,5 +11,6 @@ mod outcome;
 mod pivoting;
 mod reducing;
 pub mod rightness;
+mod short_list;
 
 pub use layer::Substitution;
