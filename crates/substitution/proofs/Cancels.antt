@@ -69,11 +69,10 @@ module _ (k : ℕ) (p : Sum) (i : ℕ) (o t : List Held) (c : Held) (g : i < len
       ∙ ap Some (sym (ap kepts (take_more_set t i d h) ∙ map-append kept_of (take i t) (d ∷ [])))
 
   -- it has a number beyond G
-  pub cancel_stops : (held : ℕ) → i < held → held ≤ length o → cancel_one k p (kept_of c) ≡ None → cancel_all k p (kepts (take held o)) ≡ None
-  cancel_stops held a b r =
-      let n : length (take held o) ≡ held = length-take-le held o b in
-      let rest = drop (i + 1) (take held o) in
-      let s : take held o ≡ take i o ++ c ∷ rest = split_at (take held o) i c (omega arith) ∙ (λ j. take-take i held o (omega arith) j ++ (get_or-take held o i c a ∙ e) j ∷ rest) in
+  pub cancel_stops : cancel_one k p (kept_of c) ≡ None → cancel_all k p (kepts o) ≡ None
+  cancel_stops r =
+      let rest = drop (i + 1) o in
+      let s : o ≡ take i o ++ c ∷ rest = split_at o i c g ∙ (λ j. take i o ++ e j ∷ rest) in
       ap (λ (x : List Held). cancel_all k p (kepts x)) s
       ∙ ap (cancel_all k p) (map-append kept_of (take i o) (c ∷ rest))
       ∙ cancel_append k p (kepts (take i o)) (kepts (c ∷ rest))

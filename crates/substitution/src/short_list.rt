@@ -9,8 +9,8 @@ use std::marker::Model;
 // The first `len` items are the list. The others only fill the array.
 #[derive(Drop)]
 pub struct ShortList<T> {
-    items: [T; ROWS],
-    len: usize,
+    pub(crate) items: [T; ROWS],
+    pub(crate) len: usize,
 }
 
 // Clauses see the list.

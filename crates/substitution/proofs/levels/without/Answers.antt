@@ -7,8 +7,8 @@ pub invariant_of-result : goal.invariant_of-result
 invariant_of-result c =
     let p = c.args.levels.now in
     record {
-      places = length-set p.numerators c.args.fader (pos 0) ∙ p.places;
-      within = within_set p.numerators c.args.fader (pos 0) p.within zero_within;
+      places = length-set p.numerators c.place.result (pos 0) ∙ p.places;
+      within = within_set p.numerators c.place.result (pos 0) p.within zero_within;
       positive = p.positive;
       bounded = p.bounded;
     }

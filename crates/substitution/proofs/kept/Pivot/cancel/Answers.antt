@@ -1,4 +1,5 @@
 use Rattle.std.proofs.Common.{◌≡◌, ℕ, ◌/◌, get_or, ℤ, pos, nat_abs, Some, sym, ap, ◌∙◌, w32, to_z, of_z}
+use Rattle.std.specs.Option.{option_map}
 use Rattle.integers.specs.Divisors.{gcd_of}
 use Rattle.rows.specs.Limits.{Within}
 use Rattle.rows.specs.Carrying.{Sum, numbers_of, combination, fits}
@@ -7,7 +8,7 @@ use Rattle.substitution.specs.Reduction.{pivot_factor, at, cancelled}
 use Rattle.substitution.specs.Holding.{kept_of}
 use Rattle.substitution.proofs.Places.{bits_are, none_by_bits, some_by_bits}
 use Rattle.substitution.proofs.Cancels.{cancel_stays, cancel_takes, cancel_beyond}
-use Rattle.substitution.proofs.pivoting.cancel.Goals as goal
+use Rattle.substitution.proofs.kept.Pivot.cancel.Goals as goal
 
 -- the combination by the factors as the calls have them
 combination_is : (k : ℕ) (s p : Carried) (own other : ℤ) → Within own → Within other
@@ -24,23 +25,26 @@ combination_is k s p own other w v e f =
 pub returns-then-a-eq0 : goal.returns-then-a-eq0
 returns-then-a-eq0 c =
     let s = c.args.kept.now.row in
-    let k = c.args.fader in
-    cancel_stays k (numbers_of c.args.pivot.now) (kept_of c.args.kept.now) (none_by_bits (get_or s.coefficients k (pos 0)) (s.within k) c.if-a-eq0.true)
+    let k = c.place-place.result in
+    rw (← c.place-place.ensures.value) (cancel_stays k (numbers_of c.args.self.now.row) (kept_of c.args.kept.now) (none_by_bits (get_or s.coefficients k (pos 0)) (s.within k) c.if-a-eq0.true))
 
-pub returns-in_default : goal.returns-in_default
-returns-in_default c =
+pub returns-in_err-row : goal.returns-in_err-row
+returns-in_err-row c =
     let s = c.args.kept.now.row in
-    let p = c.args.pivot.now in
-    let k = c.args.fader in
+    let p = c.args.self.now.row in
+    let k = c.place-place.result in
     let e = combination_is k s p c.parts-part.result.1 c.pivot_factor-other.result c.parts-part.ensures.within.1 c.pivot_factor-other.ensures.within c.parts-part.ensures.second c.pivot_factor-other.ensures.value in
-    cancel_beyond k (numbers_of p) (kept_of c.args.kept.now) (some_by_bits (get_or s.coefficients k (pos 0)) c.if-a-eq0.false) (sym (ap fits e) ∙ c.in_default.ensures)
+    rw (← c.place-place.ensures.value)
+    (ap (option_map kept_of) c.from_residual.ensures
+    ∙ cancel_beyond k (numbers_of p) (kept_of c.args.kept.now) (some_by_bits (get_or s.coefficients k (pos 0)) c.if-a-eq0.false) (sym (ap fits e) ∙ c.in_err-row.ensures))
 
 pub returns : goal.returns
 returns c =
     let s = c.args.kept.now.row in
-    let p = c.args.pivot.now in
-    let k = c.args.fader in
+    let p = c.args.self.now.row in
+    let k = c.place-place.result in
     let e = combination_is k s p c.parts-part.result.1 c.pivot_factor-other.result c.parts-part.ensures.within.1 c.pivot_factor-other.ensures.within c.parts-part.ensures.second c.pivot_factor-other.ensures.value in
-    let q = c.in-Some.ensures in
-    ap (λ (x : Sum). Some (record { kind = c.args.kept.now.kind; sum = x })) (q.1 ∙ e)
-    ∙ cancel_takes k (numbers_of p) (kept_of c.args.kept.now) (some_by_bits (get_or s.coefficients k (pos 0)) c.if-a-eq0.false) (sym (ap fits e) ∙ q.0)
+    let q = c.in_ok-row.ensures in
+    rw (← c.place-place.ensures.value)
+    (ap (λ (x : Sum). Some (record { kind = c.args.kept.now.kind; sum = x })) (q.1 ∙ e)
+    ∙ cancel_takes k (numbers_of p) (kept_of c.args.kept.now) (some_by_bits (get_or s.coefficients k (pos 0)) c.if-a-eq0.false) (sym (ap fits e) ∙ q.0))
