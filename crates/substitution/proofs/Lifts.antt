@@ -1,6 +1,7 @@
 -- The weights of the listed rows, one after another. Assumes nothing.
-use Rattle.std.proofs.Common.{◌≡◌, ℕ, suc, ◌+◌, ◌-◌, ◌<◌, List, [], ◌∷◌, ◌++◌, length, take, set, ℤ, pos, Some, None, Ok, Err, Option, Result, sym, refl, ap, ◌∙◌, arith}
+use Rattle.std.proofs.Common.{◌≡◌, ℕ, suc, ◌+◌, ◌-◌, ◌<◌, List, [], ◌∷◌, ◌++◌, length, take, drop, set, ℤ, pos, Some, None, Ok, Err, Option, Result, sym, refl, ap, ◌∙◌, arith}
 use Rattle.std.proofs.lemmas.List.{take_more_set, append-nil, append_assoc}
+use Rattle.rows.specs.Limits.{EachWithin}
 use Rattle.engine.specs.declared.fault.Fault.{Fault}
 use Rattle.engine.specs.Verdicts.{weight_beyond}
 use Rattle.substitution.specs.Reduction.{Kept}
@@ -46,3 +47,15 @@ module _ (n : ℕ) (ws : List ℤ) (rs : List Kept) where
       l
       ∙ ap (λ (m : ℕ). behind (take j values) (lifted_weights m j ws rs)) e
       ∙ ap (λ (xs : List ℤ). Ok xs) (append-nil (take j values) ∙ ap (λ (m : ℕ). take m values) h)
+
+-- ---- lists of which each number is within G, in parts
+
+pub within_drop : (n : ℕ) (xs : List ℤ) → EachWithin xs → EachWithin (drop n xs)
+within_drop ℕ.zero xs w k = w k
+within_drop (suc n) [] w k = w k
+within_drop (suc n) (x ∷ xs) w k = within_drop n xs (λ i. w (suc i)) k
+
+pub within_both : (xs ys : List ℤ) → EachWithin xs → EachWithin ys → EachWithin (xs ++ ys)
+within_both [] ys w v k = v k
+within_both (x ∷ xs) ys w v ℕ.zero = w 0
+within_both (x ∷ xs) ys w v (suc k) = within_both xs ys (λ i. w (suc i)) v k

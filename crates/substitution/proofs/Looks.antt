@@ -11,7 +11,7 @@ use Rattle.engine.specs.Verdicts.{number_beyond}
 use Rattle.rows.specs.Carrying.{numbers_of}
 use Rattle.substitution.specs.declared.kept.Kept.{Kept as Held}
 use Rattle.substitution.specs.declared.kept.Pivot.{Pivot as HeldPivot}
-use Rattle.substitution.specs.Reduction.{Kept, Pivot, Reduced, Reduced.clashing, Reduced.faulty, is_equation, first_fader, cancel_all, contradiction, reduced}
+use Rattle.substitution.specs.Reduction.{Pivot, Reduced, Reduced.clashing, Reduced.faulty, is_equation, first_fader, cancel_all, contradiction, reduced}
 use Rattle.substitution.specs.Holding.{kept_of, kepts, latest_first}
 use Rattle.substitution.proofs.Latest.{latest_push}
 use Rattle.substitution.proofs.Turns.{passed, contradicted, emptied, stopped, solved}

@@ -1,6 +1,6 @@
 -- What is handed to the engine below, and how its reply gives the layer's answer. Assumes nothing.
-use Rattle.std.proofs.Common.{◌≡◌, ℕ, ◌+◌, ◌<◌, ◌≤◌, List, [], ◌∷◌, ◌++◌, map, length, get_or, take, ℤ, Ok, Err, Result, sym, refl, ap, ◌∙◌, subst, arith}
-use Rattle.std.proofs.lemmas.List.{length-map, length-take-le, map_more, map_push}
+use Rattle.std.proofs.Common.{◌≡◌, ℕ, ◌<◌, ◌≤◌, List, [], map, length, take, ℤ, Ok, Err, Result, sym, refl, ap, ◌∙◌, subst, arith}
+use Rattle.std.proofs.lemmas.List.{length-map, length-take-le}
 use Rattle.engine.specs.declared.answer.Answer.TheVariants.{Clash as KeptClash}
 use Rattle.engine.specs.declared.answer.Answer.{Answer as Kept}
 use Rattle.engine.specs.declared.fault.Fault.{Fault}

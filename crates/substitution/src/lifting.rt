@@ -36,8 +36,8 @@ pub fn lift(below: &Weights, rows: &[Kept], listed: usize) -> Result<Weights, Fa
     ensures { MatchResult result (λ w. lifted_weights listed 0 (take (length rows.now) below.now.values) (kepts rows.now) ≡ Ok (take listed w.values)) (λ f. lifted_weights listed 0 (take (length rows.now) below.now.values) (kepts rows.now) ≡ Err f) }
 {
     let mut values = [0; ROWS];
-    for place in 0..listed {
-        values[place] = lift_one(below, rows, place).ok_or(Fault::new(WEIGHT, place as u8))?;
+    for (place, value) in values[..listed].iter_mut().enumerate() {
+        *value = lift_one(below, rows, place).ok_or(Fault::new(WEIGHT, place as u8))?;
     }
     Ok(Weights { values })
 }

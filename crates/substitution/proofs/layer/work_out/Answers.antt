@@ -1,10 +1,7 @@
-use Rattle.std.proofs.Common.{◌≡◌, [], List, map, Ok, Err, sym, refl, ap, ◌∙◌, subst}
+use Rattle.std.proofs.Common.{[], Ok, Err, sym, refl, ap, ◌∙◌}
 use Rattle.engine.specs.declared.answer.Answer.TheVariants.{Clash}
-use Rattle.engine.specs.Verdicts.{Valid}
-use Rattle.substitution.specs.declared.kept.Kept.{Kept}
 use Rattle.substitution.specs.declared.stop.Stop.{Stop}
 use Rattle.substitution.specs.Reduction.{Reduced.clashing, Reduced.faulty, Reduced.left}
-use Rattle.substitution.specs.Working.{handed_down}
 use Rattle.substitution.specs.Holding.{kepts, latest_first}
 use Rattle.substitution.specs.Outcomes.{finished}
 use Rattle.substitution.proofs.Returning.{left_valid, worked_out}

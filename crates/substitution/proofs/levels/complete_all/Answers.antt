@@ -1,4 +1,4 @@
-use Rattle.std.proofs.Common.{◌≡◌, ℕ, ◌+◌, ◌-◌, ◌<◌, List, [], ◌∷◌, ◌++◌, length, get_or, take, Some, None, sym, ap, ◌∙◌, arith, length-append}
+use Rattle.std.proofs.Common.{◌≡◌, ℕ, ◌-◌, ◌<◌, [], ◌∷◌, ◌++◌, length, take, sym, ap, ◌∙◌, arith}
 use Rattle.std.specs.Option.{option_map}
 use Rattle.std.proofs.lemmas.List.{length-reverse, get_or-reverse, length_push}
 use Rattle.std.proofs.lemmas.Iterator.Adapters.{YieldsList-from_rev_slice}
@@ -6,7 +6,6 @@ use Rattle.std.proofs.lemmas.Iterator.Consumers.{YieldsList-turn}
 use Rattle.std.proofs.lemmas.Result.{err_from_is_err_and}
 use Rattle.engine.specs.declared.fault.Fault.{Fault}
 use Rattle.engine.specs.Verdicts.{Verdict}
-use Rattle.substitution.specs.declared.kept.Pivot.{Pivot as Held}
 use Rattle.rows.specs.Presets.{terms_of}
 use Rattle.substitution.specs.Lifting.{all_completed}
 use Rattle.substitution.specs.Holding.{latest_first}
@@ -36,8 +35,7 @@ loop-pivot-preserved c =
     let h : n < length ps = omega (arith, t.0, length-reverse ps) in
     let o = c.in_ok-levels.ensures.ok_part in
     let b = completed_some ps (length ps - n) (length ps - 1 - n) p (omega arith) (omega arith) (t.1 ∙ get_or-reverse ps n p h) c.loop-pivot.levels.numerators c.loop-pivot.levels.denominator in
-    let rest : length ps - length (c.loop-pivot.yielded ++ c.in-Some.pivot ∷ []) ≡ length ps - 1 - n = omega (arith, length_push c.loop-pivot.yielded c.in-Some.pivot) in
-    (
+    let rest : length ps - length (c.loop-pivot.yielded ++ c.in-Some.pivot ∷ []) ≡ length ps - 1 - n = omega (arith, length_push c.loop-pivot.yielded c.in-Some.pivot) in (
       ap (λ (m : ℕ). all_completed (latest_first (take m ps) []) c.in_ok-levels.levels.numerators c.in_ok-levels.levels.denominator) rest ∙ b c.in_ok-levels.levels (ap (option_map terms_of) (sym o) ∙ c.complete.ensures) ∙ c.loop-pivot.invariant.0,
       tt,
       tt,

@@ -1,4 +1,4 @@
-use Rattle.std.proofs.Common.{◌*◌, ℕ, cond, get_or, set, pos, neg_ℤ, ◌∙◌, sym, subst, ap, w32, w64, SFits, rules}
+use Rattle.std.proofs.Common.{◌*◌, cond, get_or, set, pos, neg_ℤ, ◌∙◌, w32, w64, SFits, rules}
 use lib.Signed.{lt_z}
 use Rattle.std.proofs.lemmas.Int.{to_z-of_z}
 use Rattle.integers.specs.Vectors.{scale}

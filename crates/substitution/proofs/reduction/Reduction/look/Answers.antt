@@ -1,9 +1,7 @@
-use Rattle.std.proofs.Common.{List, get_or, refl, sym, ap, ◌∙◌, arith}
+use Rattle.std.proofs.Common.{List, get_or, refl, sym, ap, ◌∙◌}
 use Rattle.std.proofs.lemmas.Result.{err_from_is_err_and}
 use Rattle.substitution.specs.declared.kept.Kept.{Kept}
-use Rattle.substitution.specs.declared.stop.Stop.{Stop}
-use Rattle.substitution.specs.declared.stop.Stop.TheVariants.{Beyond}
-use Rattle.substitution.specs.Reduction.{Reduced.clashing, Reduced.faulty}
+use Rattle.substitution.specs.Reduction.{Reduced.clashing}
 use Rattle.substitution.proofs.Places.{none_by_bits, some_by_bits}
 use Rattle.substitution.proofs.Looks.{not_equation, equation, ahead_at, passes, contradicts, empties, stops, solves}
 use Rattle.substitution.proofs.reduction.Reduction.look.Goals as goal

@@ -1,4 +1,4 @@
-use Rattle.std.proofs.Common.{◌≡◌, ℕ, suc, ◌+◌, ◌-◌, ◌<◌, ◌≤◌, List, ◌++◌, length, take, drop, sym, ap, ◌∙◌, arith, add-one}
+use Rattle.std.proofs.Common.{◌≡◌, ℕ, ◌+◌, ◌-◌, ◌<◌, ◌≤◌, List, ◌++◌, length, take, drop, sym, ap, ◌∙◌, arith, add-one}
 use Rattle.std.specs.List.{remove, copy_within}
 use Rattle.std.proofs.lemmas.List.{length-take-le, take-take, drop-take, length-drop}
 use Rattle.std.proofs.lemmas.List.Edits.{take-paste}
