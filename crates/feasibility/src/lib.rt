@@ -5,8 +5,6 @@
 ghost use Rattle.feasibility.specs.Deciding.{Decidable};
 
 // States that every list of rows is met by some levels or by none, and which of the two is decided. It computes nothing.
-pub fn feasibility_is_decidable() -> u8
+pub fn feasibility_is_decidable()
     ensures { Decidable }
-{
-    0
-}
+{}

@@ -26,6 +26,7 @@ pub fn first_best<T: Better>(items: &[T]) -> Option<usize>
         return None;
     }
     let mut best = 0;
+    // kept: `for (i, item) in items.iter().enumerate().skip(1)` would still read `items[best]` by its place
     for i in 1..items.len() {
         if items[i].better(&items[best]) {
             best = i;

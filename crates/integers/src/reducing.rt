@@ -23,8 +23,6 @@ impl Fraction {
 }
 
 // States that no other terms of the same fractions are smaller than the lowest; it computes nothing.
-pub fn lowest_terms_are_smallest() -> u8
+pub fn lowest_terms_are_smallest()
     ensures { Smallest }
-{
-    0
-}
+{}

@@ -36,10 +36,7 @@ fn divisors(rt: HostRuntime) {
 
 // The terms of the fraction in lowest terms.
 fn lowest(numerator: i64, denominator: i64) -> Option<(i64, i64)> {
-    match Fraction::new(numerator, denominator) {
-        Some(f) => Some((f.numerator, f.denominator)),
-        None => None,
-    }
+    Fraction::new(numerator, denominator).map(|f| (f.numerator, f.denominator))
 }
 
 #[test]

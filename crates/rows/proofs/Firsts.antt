@@ -1,16 +1,14 @@
 -- What a loop over the rows reads, and the first of a list that fails. Assumes nothing.
-use Rattle.std.proofs.Common.{◌≡◌, ℕ, zero, suc, ◌+◌, ◌<◌, List, [], ◌∷◌, length, get_or, take, sym, ap, ◌∙◌, subst, arith}
-use Rattle.std.specs.List.{AllByRecursion as All}
+use Rattle.std.proofs.Common.{◌≡◌, ℕ, zero, suc, ◌+◌, ◌<◌, Bool, true, false, not, List, [], ◌∷◌, map, length, get_or, take, Option, Some, None, refl, sym, ap, ◌∙◌, subst, arith}
+use Rattle.std.specs.Option.{MatchOption, is_some}
+use Rattle.std.specs.Bool.{Decides}
+use Rattle.std.proofs.lemmas.Bool.{false≢true}
+use Rattle.std.specs.List.{AllByRecursion as All, AllWithin, HoldsAt}
 use Rattle.std.proofs.lemmas.List.{get_or-map, length-map}
 use Rattle.std.proofs.ByRecursion.{All-more}
 use Rattle.rows.specs.declared.row.Row.{Row}
 use Rattle.rows.specs.Firsts.{FirstWithout}
 use Rattle.rows.specs.Rows.{Constraint, constraint, constraints}
-
-pub first_at : {X : Type 0} (P : X → Type 0) (xs : List X) (i : ℕ) (d : X) → i < length xs → All P (take i xs) → (P (get_or xs i d) → ⊥) → FirstWithout P xs i
-first_at P [] i d h before here = absurd (omega arith)
-first_at P (x ∷ xs) zero d h before here = here
-first_at P (x ∷ xs) (suc i) d h before here = (before.0, first_at P xs i d (omega arith) before.1 here)
 
 pub first_not_all : {X : Type 0} (P : X → Type 0) (xs : List X) (i : ℕ) → FirstWithout P xs i → All P xs → ⊥
 first_not_all P [] i f all = f
@@ -26,8 +24,24 @@ module _ (rows : List Row) (i : ℕ) (r : Row) (h : i < length rows) (e : r ≡ 
   pub within_constraints : i < length (constraints rows)
   within_constraints = rw length-map h
 
-  pub first_row : (P : Constraint → Type 0) → All P (take i (constraints rows)) → (P (constraint r) → ⊥) → FirstWithout P (constraints rows) i
-  first_row P before here = first_at P (constraints rows) i (constraint r) within_constraints before (λ p. here (subst P constraint_at p))
+-- `position` over a list: the first element of which P fails, P being of what f reads off it
+module _ {X Y : Type 0} (f : X → Y) (P : Y → Type 0) where
+  all_from : (xs : List X) → ((k : ℕ) (d : X) → k < length xs → P (f (get_or xs k d))) → All P (map f xs)
+  all_from [] each = tt
+  all_from (x ∷ xs) each = (each 0 x (omega arith), all_from xs (λ k d l. each (suc k) d (omega arith)))
 
-  pub all_rows_more : (P : Constraint → Type 0) → All P (take i (constraints rows)) → P (constraint r) → All P (take (i + 1) (constraints rows))
-  all_rows_more P before here = All-more P (constraints rows) i (constraint r) within_constraints before (subst P (sym constraint_at) here)
+  first_from : (xs : List X) (i : ℕ) → i < length xs → ((d : X) → P (f (get_or xs i d)) → ⊥) → ((k : ℕ) (d : X) → k < i → P (f (get_or xs k d))) → FirstWithout P (map f xs) i
+  first_from [] i l here before = absurd (omega arith)
+  first_from (x ∷ xs) zero l here before = here x
+  first_from (x ∷ xs) (suc i) l here before = (before 0 x (omega arith), first_from xs i (omega arith) here (λ k d m. before (suc k) d (omega arith)))
+
+  pub first_found : (xs : List X) (r : Option ℕ) → MatchOption r (AllWithin (λ x. P (f x)) xs 0 (length xs)) (λ i. (i < length xs) × HoldsAt (λ x. P (f x) → ⊥) xs i × AllWithin (λ x. P (f x)) xs 0 i) → MatchOption r (All P (map f xs)) (FirstWithout P (map f xs))
+  first_found xs None found = all_from xs (λ k d l. found k d (omega arith) l)
+  first_found xs (Some i) found = first_from xs i found.0 found.1 (λ k d l. found.2 k d (omega arith) l)
+
+-- an answer that is none exactly where A holds, as a test
+pub none_decides : {X A : Type 0} {P : X → Type 0} (r : Option X) (b : Bool) → MatchOption r A P → ((i : X) → P i → A → ⊥) → is_some r ≡ not b → Decides b A
+none_decides None true m f e = ((λ _. m), λ _. refl)
+none_decides None false m f e = absurd (false≢true e)
+none_decides (Some i) true m f e = absurd (false≢true (sym e))
+none_decides (Some i) false m f e = ((λ h. absurd (false≢true h)), λ a. absurd (f i m a))

@@ -1,6 +1,7 @@
 pub mod Fits
 pub mod Sums
 pub mod Firsts
+pub mod Pairs
 pub mod Weighing
 pub mod Excluding
 pub mod Flaws

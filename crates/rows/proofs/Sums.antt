@@ -9,9 +9,6 @@ use Rattle.integers.proofs.VectorLaws.{dot_nil}
 abbrev pub rest : ℤ → List ℤ → List ℤ → ℕ → ℤ
 rest s xs ys i = s +ℤ dot (drop i xs) (drop i ys)
 
-pub rest_none : (xs ys : List ℤ) → rest (pos 0) xs ys 0 ≡ dot xs ys
-rest_none xs ys = +ℤ_idl (dot xs ys)
-
 pub rest_more : (s : ℤ) (xs ys : List ℤ) (i : ℕ) → i < length xs → i < length ys → rest (s +ℤ get_or xs i (pos 0) *ℤ get_or ys i (pos 0)) xs ys (i + 1) ≡ rest s xs ys i
 rest_more s xs ys i h k =
     +ℤ_assoc s (get_or xs i (pos 0) *ℤ get_or ys i (pos 0)) (dot (drop (i + 1) xs) (drop (i + 1) ys))

@@ -10,18 +10,6 @@ use Rattle.rows.specs.Rows.{Constraint, constraint, constraints}
 use Rattle.rows.proofs.Firsts.{constraint_at, within_constraints}
 use Rattle.rows.specs.Clashes.{Weighs, Weighed, column, total, Strictly, Falsehood, FirstNegative}
 
-pub weighed_more : (ws : List ℤ) (rows : List Constraint) (i : ℕ) (d : Constraint) → i < length ws → i < length rows → Weighed (take i ws) (take i rows) → Weighs (get_or ws i (pos 0)) (get_or rows i d).kind → Weighed (take (suc i) ws) (take (suc i) rows)
-weighed_more [] rows i d h k before here = absurd (omega arith)
-weighed_more (w ∷ ws) [] i d h k before here = absurd (omega arith)
-weighed_more (w ∷ ws) (r ∷ rows) zero d h k before here = (here, tt)
-weighed_more (w ∷ ws) (r ∷ rows) (suc i) d h k before here = (before.0, weighed_more ws rows i d (omega arith) (omega arith) before.1 here)
-
-pub negative_at : (ws : List ℤ) (rows : List Constraint) (i : ℕ) (d : Constraint) → i < length ws → i < length rows → Weighed (take i ws) (take i rows) → (Weighs (get_or ws i (pos 0)) (get_or rows i d).kind → ⊥) → FirstNegative ws rows i
-negative_at [] rows i d h k before here = absurd (omega arith)
-negative_at (w ∷ ws) [] i d h k before here = absurd (omega arith)
-negative_at (w ∷ ws) (r ∷ rows) zero d h k before here = here
-negative_at (w ∷ ws) (r ∷ rows) (suc i) d h k before here = (before.0, negative_at ws rows i d (omega arith) (omega arith) before.1 here)
-
 pub negative_not_weighed : (ws : List ℤ) (rows : List Constraint) (i : ℕ) → FirstNegative ws rows i → Weighed ws rows → ⊥
 negative_not_weighed [] rows i f all = f
 negative_not_weighed (w ∷ ws) [] i f all = f
@@ -33,26 +21,6 @@ weighed_length [] [] p = refl
 weighed_length [] (r ∷ rows) p = absurd p
 weighed_length (w ∷ ws) [] p = absurd p
 weighed_length (w ∷ ws) (r ∷ rows) p = ap suc (weighed_length ws rows p.1)
-
-pub strictly_at : (ws : List ℤ) (rows : List Constraint) (i : ℕ) (d : Constraint) → i < length ws → i < length rows → (get_or rows i d).kind ≡ Below → pos 0 <ℤ get_or ws i (pos 0) → Strictly ws rows
-strictly_at [] rows i d h k b p = absurd (omega arith)
-strictly_at (w ∷ ws) [] i d h k b p = absurd (omega arith)
-strictly_at (w ∷ ws) (r ∷ rows) zero d h k b p = inl (b, p)
-strictly_at (w ∷ ws) (r ∷ rows) (suc i) d h k b p = inr (strictly_at ws rows i d (omega arith) (omega arith) b p)
-
-pub strictly_no_rows : (ws : List ℤ) → Strictly ws [] → ⊥
-strictly_no_rows [] s = s
-strictly_no_rows (w ∷ ws) s = s
-
--- the place i is not what makes it strict
-pub strictly_more : (ws : List ℤ) (rows : List Constraint) (i : ℕ) (d : Constraint) → ((get_or rows i d).kind ≡ Below → pos 0 <ℤ get_or ws i (pos 0) → ⊥) → Strictly (drop i ws) (drop i rows) → Strictly (drop (suc i) ws) (drop (suc i) rows)
-strictly_more [] rows zero d here s = absurd s
-strictly_more [] rows (suc i) d here s = absurd s
-strictly_more (w ∷ ws) [] zero d here s = absurd s
-strictly_more (w ∷ ws) (r ∷ rows) zero d here (inl s) = absurd (here s.0 s.1)
-strictly_more (w ∷ ws) (r ∷ rows) zero d here (inr s) = s
-strictly_more (w ∷ ws) [] (suc i) d here s = absurd (strictly_no_rows (drop i ws) s)
-strictly_more (w ∷ ws) (r ∷ rows) (suc i) d here s = strictly_more ws rows i d here s
 
 -- weights past the rows count nothing
 pub dot_take : (ws ys : List ℤ) → dot (take (length ys) ws) ys ≡ dot ws ys
@@ -99,22 +67,3 @@ column_past [] rows k h = refl
 column_past (w ∷ ws) [] k h = refl
 column_past (w ∷ ws) (r ∷ rows) k h =
     (λ i. w *ℤ get_or_past r.coefficients k (pos 0) (omega (arith, r.places)) i +ℤ column_past ws rows k h i) ∙ ap (λ (z : ℤ). z +ℤ pos 0) (*ℤ-zero w)
-
--- a loop over rows and their weights reads the row r at the place i
-module _ (ws : List ℤ) (rows : List Row) (i : ℕ) (r : Row) (g : i < length ws) (h : i < length rows) (e : r ≡ get_or rows i r) where
-  kind_at : (get_or (constraints rows) i (constraint r)).kind ≡ r.kind
-  kind_at = ap (λ (k : Constraint). k.kind) (constraint_at rows i r h e)
-
-  pub weighed_row_more : Weighed (take i ws) (take i (constraints rows)) → Weighs (get_or ws i (pos 0)) r.kind → Weighed (take (i + 1) ws) (take (i + 1) (constraints rows))
-  weighed_row_more before here =
-      rw add-one (weighed_more ws (constraints rows) i (constraint r) g (within_constraints rows i r h e) before (subst (Weighs (get_or ws i (pos 0))) (sym kind_at) here))
-
-  pub negative_row : Weighed (take i ws) (take i (constraints rows)) → (Weighs (get_or ws i (pos 0)) r.kind → ⊥) → FirstNegative ws (constraints rows) i
-  negative_row before here =
-      negative_at ws (constraints rows) i (constraint r) g (within_constraints rows i r h e) before (λ p. here (subst (Weighs (get_or ws i (pos 0))) kind_at p))
-
-  pub strict_row : r.kind ≡ Below → pos 0 <ℤ get_or ws i (pos 0) → Strictly ws (constraints rows)
-  strict_row b p = strictly_at ws (constraints rows) i (constraint r) g (within_constraints rows i r h e) (kind_at ∙ b) p
-
-  pub strictly_row_more : ((r.kind ≡ Below) × (pos 0 <ℤ get_or ws i (pos 0)) → ⊥) → Strictly (drop i ws) (drop i (constraints rows)) → Strictly (drop (i + 1) ws) (drop (i + 1) (constraints rows))
-  strictly_row_more here s = rw add-one (strictly_more ws (constraints rows) i (constraint r) (λ b p. here (sym kind_at ∙ b, p)) s)

@@ -27,13 +27,7 @@ fn part_of(row: &Row, part: Part) -> i32
     ensures within { Within result }
 {
     match part {
-        Part::Coefficient(fader) => {
-            if fader < FADERS {
-                row.coefficients[fader]
-            } else {
-                0
-            }
-        }
+        Part::Coefficient(fader) => { row.coefficients.get(fader).copied().unwrap_or(0) }
         Part::Side => row.side,
     }
 }
@@ -42,9 +36,9 @@ fn part_of(row: &Row, part: Part) -> i32
 fn weighted_sum(weights: &Weights, rows: &[Row], part: Part) -> i128
     ensures { result ≡ dot weights.now.values (numbers part (constraints rows.now)) }
 {
-    let mut sum = 0i128;
-    for i in 0..rows.len().min(ROWS) {
-        sum += product(weights.values[i], part_of(&rows[i], part)) as i128;
+    let mut sum = 0;
+    for (weight, row) in weights.values.iter().zip(rows) {
+        sum += i128::from(product(*weight, part_of(row, part)));
     }
     sum
 }
@@ -78,12 +72,11 @@ fn first_negative(weights: &Weights, rows: &[Row]) -> Option<usize>
     requires { length rows.now ≤ most_rows }
     ensures { MatchOption result (Weighed (used weights.now (constraints rows.now)) (constraints rows.now)) (λ i. FirstNegative (used weights.now (constraints rows.now)) (constraints rows.now) i) }
 {
-    for (i, row) in rows.iter().enumerate() {
-        if !may_weigh(weights.values[i], row.kind) {
-            return Some(i);
-        }
-    }
-    None
+    weights
+        .values
+        .iter()
+        .zip(rows)
+        .position(|(weight, row)| !may_weigh(*weight, row.kind))
 }
 
 // The lowest fader whose column is not 0; none where all are.
@@ -112,12 +105,11 @@ fn is_strict(weight: i32, kind: Kind) -> bool
 fn has_strict(weights: &Weights, rows: &[Row]) -> bool
     ensures { Decides result (Strictly weights.now.values (constraints rows.now)) }
 {
-    for i in 0..rows.len().min(ROWS) {
-        if is_strict(weights.values[i], rows[i].kind) {
-            return true;
-        }
-    }
-    false
+    weights
+        .values
+        .iter()
+        .zip(rows)
+        .any(|(weight, row)| is_strict(*weight, row.kind))
 }
 
 // Whether weights times sides add up to a falsehood.
@@ -153,8 +145,5 @@ pub fn is_clash(weights: &Weights, rows: &[Row]) -> bool
     ensures clash { Decides result (Clash (used weights.now (constraints rows.now)) (constraints rows.now)) }
     ensures excludes { result ≡ true → Infeasible (constraints rows.now) }
 {
-    match clash_flaw(weights, rows) {
-        None => true,
-        Some(_) => false,
-    }
+    clash_flaw(weights, rows).is_none()
 }

@@ -6,8 +6,9 @@ ghost use Rattle.rows.specs.Limits.{most_rows, Within, EachWithin, narrowed, all
 ghost use Rattle.rows.specs.Rows.{constraint};
 ghost use Rattle.rows.specs.Carrying.{numbers_of, listed, combination, fits};
 
-use crate::bounds::{FADERS, ROWS, narrow};
+use crate::bounds::{ROWS, narrow};
 use crate::carried::Carried;
+use crate::factor::Factor;
 use crate::row::Row;
 use integers::{gcd, product};
 
@@ -38,59 +39,46 @@ impl Carried {
 }
 
 // The sizes of two numbers, of which the first is not 0, each divided by their common divisor: the factors by which one cancels the other.
-pub fn parts(a: i32, b: i32) -> (i32, i32)
+pub fn parts(a: i32, b: i32) -> (Factor, Factor)
     requires { (Within a) × ((Within b) × (0 < unsigned_abs a)) }
-    ensures first { result.0 ≡ pos (unsigned_abs a / gcd_of (unsigned_abs a) (unsigned_abs b)) }
-    ensures second { result.1 ≡ pos (unsigned_abs b / gcd_of (unsigned_abs a) (unsigned_abs b)) }
-    ensures within { Within result.0 × Within result.1 }
+    ensures first { result.0.value ≡ pos (unsigned_abs a / gcd_of (unsigned_abs a) (unsigned_abs b)) }
+    ensures second { result.1.value ≡ pos (unsigned_abs b / gcd_of (unsigned_abs a) (unsigned_abs b)) }
 {
-    let x = a.unsigned_abs();
-    let y = b.unsigned_abs();
-    let shared = gcd(x as u64, y as u64);
-    ((x as u64 / shared) as i32, (y as u64 / shared) as i32)
+    let x = u64::from(a.unsigned_abs());
+    let y = u64::from(b.unsigned_abs());
+    let shared = gcd(x, y);
+    let first = (x / shared) as i32;
+    let second = (y / shared) as i32;
+    (Factor { value: first }, Factor { value: second })
 }
 
 // m times a and n times b, added; none where that is beyond G.
-fn blended(m: i32, a: i32, n: i32, b: i32) -> Option<i32>
-    requires { (Within m) × ((Within a) × ((Within n) × (Within b))) }
-    ensures { result ≡ narrowed (m *ℤ a +ℤ n *ℤ b) }
+fn blended(m: Factor, a: i32, n: Factor, b: i32) -> Option<i32>
+    requires { (Within a) × (Within b) }
+    ensures { result ≡ narrowed (m.value *ℤ a +ℤ n.value *ℤ b) }
 {
-    narrow(product(m, a) + product(n, b))
+    narrow(product(m.value, a) + product(n.value, b))
 }
 
-// Writes m times each of one list and n times each of another, added, place by place; whether all are within G.
-fn blend(m: i32, xs: &[i32], n: i32, ys: &[i32], out: &mut [i32]) -> bool
-    requires factors { (Within m) × (Within n) }
-    requires numbers { (EachWithin xs.now) × (EachWithin ys.now) }
-    requires places { (length xs.now ≡ length out.old) × (length ys.now ≡ length out.old) }
-    ensures test { result ≡ all_near (add (scale m xs.now) (scale n ys.now)) }
-    ensures value { result ≡ true → out.new ≡ add (scale m xs.now) (scale n ys.now) }
+// m times each of one list and n times each of another, added, place by place; none where a number is beyond G.
+fn blend<const N: usize>(m: Factor, xs: &[i32; N], n: Factor, ys: &[i32; N]) -> Option<[i32; N]>
+    requires { (EachWithin xs.now) × (EachWithin ys.now) }
+    ensures { MatchOption result (all_near (add (scale m.value xs.now) (scale n.value ys.now)) ≡ false) (λ zs. (all_near (add (scale m.value xs.now) (scale n.value ys.now)) ≡ true) × (zs ≡ add (scale m.value xs.now) (scale n.value ys.now))) }
 {
-    for i in 0..out.len() {
-        match blended(m, xs[i], n, ys[i]) {
-            Some(z) => out[i] = z,
-            None => return false,
-        }
+    let mut out = [0; N];
+    for i in 0..N {
+        out[i] = blended(m, xs[i], n, ys[i])?;
     }
-    true
+    Some(out)
 }
 
 // The combination of two carried rows; none where a number is beyond G.
-pub fn combine(m: i32, a: &Carried, n: i32, b: &Carried) -> Option<Carried>
-    requires { (Within m) × (Within n) }
-    ensures { MatchOption result (fits (combination m (numbers_of a.now) n (numbers_of b.now)) ≡ false) (λ c. (fits (combination m (numbers_of a.now) n (numbers_of b.now)) ≡ true) × (numbers_of c ≡ combination m (numbers_of a.now) n (numbers_of b.now))) }
+pub fn combine(m: Factor, a: &Carried, n: Factor, b: &Carried) -> Option<Carried>
+    ensures { MatchOption result (fits (combination m.value (numbers_of a.now) n.value (numbers_of b.now)) ≡ false) (λ c. (fits (combination m.value (numbers_of a.now) n.value (numbers_of b.now)) ≡ true) × (numbers_of c ≡ combination m.value (numbers_of a.now) n.value (numbers_of b.now))) }
 {
-    let mut coefficients = [0; FADERS];
-    if !blend(m, &a.coefficients, n, &b.coefficients, &mut coefficients) {
-        return None;
-    }
-    let Some(side) = blended(m, a.side, n, b.side) else {
-        return None;
-    };
-    let mut weights = [0; ROWS];
-    if !blend(m, &a.weights, n, &b.weights, &mut weights) {
-        return None;
-    }
+    let coefficients = blend(m, &a.coefficients, n, &b.coefficients)?;
+    let side = blended(m, a.side, n, b.side)?;
+    let weights = blend(m, &a.weights, n, &b.weights)?;
     Some(Carried {
         coefficients,
         side,

@@ -1,5 +1,5 @@
 // Levels over the least denominator. Assumes nothing.
-ghost use Rattle.std.specs.Prelude.{◌≡◌, ◌<◌, true, length, pos, IfSome, int_div};
+ghost use Rattle.std.specs.Prelude.{◌≡◌, ◌<◌, true, false, pos, IfSome, MatchOption, int_div};
 ghost use Rattle.std.specs.Option.{option_map};
 ghost use Rattle.integers.specs.Fractions.{Least, Same};
 ghost use Rattle.rows.specs.Limits.{all_near};
@@ -17,19 +17,16 @@ fn quotient(number: i64, divisor: u64) -> i64
     (number as i128 / divisor as i128) as i64
 }
 
-// Writes each of the numbers divided, place by place; whether all are then within G.
-fn divide(numbers: &[i64], divisor: u64, out: &mut [i32]) -> bool
-    requires { (0 < divisor) × (length numbers.now ≡ length out.old) }
-    ensures test { result ≡ all_near (divided divisor numbers.now) }
-    ensures value { result ≡ true → out.new ≡ divided divisor numbers.now }
+// Each of the numbers divided, place by place; none where one is then beyond G.
+fn divided(numbers: &[i64; FADERS], divisor: u64) -> Option<[i32; FADERS]>
+    requires { 0 < divisor }
+    ensures { MatchOption result (all_near (divided divisor numbers.now) ≡ false) (λ zs. (all_near (divided divisor numbers.now) ≡ true) × (zs ≡ divided divisor numbers.now)) }
 {
-    for i in 0..out.len() {
-        match narrow(quotient(numbers[i], divisor)) {
-            Some(z) => out[i] = z,
-            None => return false,
-        }
+    let mut out = [0; FADERS];
+    for (k, number) in numbers.iter().enumerate() {
+        out[k] = narrow(quotient(*number, divisor))?;
     }
-    true
+    Some(out)
 }
 
 impl Preset {
@@ -46,10 +43,7 @@ impl Preset {
         if least > G as u64 {
             return None;
         }
-        let mut reduced = [0; FADERS];
-        if !divide(numerators, shared, &mut reduced) {
-            return None;
-        }
+        let reduced = divided(numerators, shared)?;
         Some(Preset {
             numerators: reduced,
             denominator: least as u32,

@@ -5,7 +5,7 @@ ghost use Rattle.rows.specs.Limits.{largest, faders, EachWithin};
 use crate::bounds::FADERS;
 
 // A level for each fader: its numerator over the one denominator.
-#[derive(Clone, Copy)]
+#[derive(Clone, Copy, PartialEq, Eq, Debug)]
 pub struct Preset {
     pub numerators: [i32; FADERS],
     pub denominator: u32,

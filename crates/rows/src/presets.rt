@@ -12,14 +12,21 @@ use crate::preset::Preset;
 use crate::row::Row;
 use integers::{common_divisor, product};
 
+// The same numbers in the wider type.
+fn widened(numbers: &[i32; FADERS]) -> [i64; FADERS]
+    ensures { result ≡ numbers.now }
+{
+    numbers.map(i64::from)
+}
+
 impl Preset {
     // The row's coefficients times the numerators, added. Six products within G times G fit i64, and so does one more.
     pub fn sum(&self, row: &Row) -> i64
         ensures { result ≡ dot row.now.coefficients self.now.numerators }
     {
-        let mut sum = 0i64;
-        for k in 0..FADERS {
-            sum += product(row.coefficients[k], self.numerators[k]);
+        let mut sum = 0;
+        for (coefficient, numerator) in row.coefficients.iter().zip(&self.numerators) {
+            sum += product(*coefficient, *numerator);
         }
         sum
     }
@@ -36,23 +43,14 @@ impl Preset {
         ensures greatest { IsGcdAll self.now.denominator self.now.numerators result }
         ensures least { (result ≡ 1 → Least self.now.numerators self.now.denominator) × (Least self.now.numerators self.now.denominator → result ≡ 1) }
     {
-        let mut numerators = [0i64; FADERS];
-        for k in 0..FADERS {
-            numerators[k] = self.numerators[k] as i64;
-        }
-        common_divisor(self.denominator as u64, &numerators)
+        common_divisor(u64::from(self.denominator), &widened(&self.numerators))
     }
 
     // Whether it is a preset for a desk with so many faders: in lowest terms, and 0 at the faders that the desk does not have.
     pub fn is_well_formed(&self, count: usize) -> bool
         ensures { Decides result (WellFormed count self.now.numerators self.now.denominator) }
     {
-        for k in count..FADERS {
-            if self.numerators[k] != 0 {
-                return false;
-            }
-        }
-        self.shared_divisor() == 1
+        self.numerators.iter().skip(count).all(|n| *n == 0) && self.shared_divisor() == 1
     }
 
     // Whether the levels meet the row.
@@ -72,12 +70,7 @@ impl Preset {
     pub fn first_unmet(&self, rows: &[Row]) -> Option<usize>
         ensures { MatchOption result (MeetsAll self.now.numerators self.now.denominator (constraints rows.now)) (λ i. FirstUnmet self.now.numerators self.now.denominator (constraints rows.now) i) }
     {
-        for (i, row) in rows.iter().enumerate() {
-            if !self.meets(row) {
-                return Some(i);
-            }
-        }
-        None
+        rows.iter().position(|row| !self.meets(row))
     }
 
     // Whether the levels meet all rows; then some levels do.
@@ -85,9 +78,6 @@ impl Preset {
         ensures meets { Decides result (MeetsAll self.now.numerators self.now.denominator (constraints rows.now)) }
         ensures feasible { result ≡ true → Feasible (constraints rows.now) }
     {
-        match self.first_unmet(rows) {
-            None => true,
-            Some(_) => false,
-        }
+        self.first_unmet(rows).is_none()
     }
 }

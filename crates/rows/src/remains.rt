@@ -30,9 +30,9 @@ impl Preset {
         requires { factor ≤ largest }
         ensures { result ≡ scale (pos factor) self.now.numerators }
     {
-        let mut numerators = [0i64; FADERS];
-        for i in 0..FADERS {
-            numerators[i] = product(factor as i32, self.numerators[i]);
+        let mut numerators = [0; FADERS];
+        for (i, numerator) in self.numerators.iter().enumerate() {
+            numerators[i] = product(factor as i32, *numerator);
         }
         numerators
     }

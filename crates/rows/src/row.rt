@@ -6,7 +6,7 @@ use crate::bounds::FADERS;
 use crate::kind::Kind;
 
 // The sum of the coefficients, each times its fader's level, is at most, below or equal to the side.
-#[derive(Clone, Copy)]
+#[derive(Clone, Copy, PartialEq, Eq, Debug)]
 pub struct Row {
     pub kind: Kind,
     pub coefficients: [i32; FADERS],

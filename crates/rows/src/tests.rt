@@ -1,31 +1,25 @@
 // Worked examples: one fader, and the plan of two faders with both kinds of answer.
 use crate::clashes::{clash_flaw, is_clash};
+use crate::fader::Fader;
 use crate::flaw::ClashFlaw;
-use crate::kind::Kind;
+use crate::kind::{Kind, UnknownKind};
 use crate::preset::Preset;
 use crate::row::Row;
 use crate::weights::Weights;
 use std::test::Fail;
 
 fn row(kind: Kind, a: i32, b: i32, side: i32) -> Result<Row, Fail> {
-    match Row::new(kind, [a, b, 0, 0, 0, 0], side) {
-        Some(row) => Ok(row),
-        None => Err(Fail::new("a number beyond G")),
-    }
+    Row::new(kind, [a, b, 0, 0, 0, 0], side).ok_or_else(|| Fail::new("a number beyond G"))
 }
 
 fn preset(a: i32, b: i32, denominator: u32) -> Result<Preset, Fail> {
-    match Preset::new([a, b, 0, 0, 0, 0], denominator) {
-        Some(preset) => Ok(preset),
-        None => Err(Fail::new("no preset")),
-    }
+    Preset::new([a, b, 0, 0, 0, 0], denominator).ok_or_else(|| Fail::new("no preset"))
 }
 
 fn weights(a: i32, b: i32, c: i32, d: i32) -> Result<Weights, Fail> {
-    match Weights::new([a, b, c, d, 0, 0, 0, 0, 0, 0, 0, 0, 0, 0, 0, 0]) {
-        Some(weights) => Ok(weights),
-        None => Err(Fail::new("a weight beyond G")),
-    }
+    Weights::new([a, b, c, d, 0, 0, 0, 0, 0, 0, 0, 0, 0, 0, 0, 0]).ok_or_else(|| Fail::new(
+        "a weight beyond G",
+    ))
 }
 
 #[test]
@@ -80,4 +74,13 @@ fn bounds(rt: HostRuntime) {
     assert!(rt; Preset::new([0; 6], 0).is_none());
     assert!(rt; Preset::new([0; 6], 1_073_741_825).is_none());
     assert!(rt; Weights::new([-1_073_741_825; 16]).is_none());
+}
+
+#[test]
+fn kinds_and_faders(rt: HostRuntime) {
+    assert_eq!(rt; Kind::try_from(1u8), Ok(Kind::Below));
+    assert_eq!(rt; Kind::try_from(3u8), Err(UnknownKind));
+    assert_eq!(rt; u8::from(Kind::Equal), 2);
+    assert!(rt; Fader::new(5).is_some_and(|f| f.place() == 5));
+    assert!(rt; Fader::new(6).is_none());
 }

@@ -2,7 +2,6 @@
 ghost use Rattle.std.specs.Prelude.{◌≡◌};
 ghost use Rattle.rows.specs.Rows.{unused, first_unused};
 
-use crate::bounds::FADERS;
 use crate::row::Row;
 
 // Whether a coefficient stands at a fader that the desk does not have.
@@ -17,9 +16,9 @@ impl Row {
     pub fn first_unused(&self, count: u8) -> Option<u8>
         ensures { result ≡ first_unused count 0 self.now.coefficients }
     {
-        for k in 0..FADERS {
-            if is_unused(count, k, self.coefficients[k]) {
-                return Some(k as u8);
+        for (fader, coefficient) in self.coefficients.iter().enumerate() {
+            if is_unused(count, fader, *coefficient) {
+                return Some(fader as u8);
             }
         }
         None

@@ -5,7 +5,7 @@ ghost use Rattle.rows.specs.Limits.{most_rows, EachWithin};
 use crate::bounds::ROWS;
 
 // A whole number for each row that a list can have.
-#[derive(Clone, Copy)]
+#[derive(Clone, Copy, PartialEq, Eq, Debug)]
 pub struct Weights {
     pub values: [i32; ROWS],
     ghost places: { length values ≡ most_rows },

@@ -1,22 +1,15 @@
-use Rattle.std.proofs.Common.{length, refl, arith}
+use Rattle.std.proofs.Common.{length, arith}
 use Rattle.std.proofs.lemmas.List.{length-take}
-use Rattle.std.proofs.lemmas.Bool.{false≢true}
 use Rattle.rows.specs.Rows.{constraints}
 use Rattle.rows.specs.Clashes.{used}
 use Rattle.rows.proofs.Excluding.{excludes}
+use Rattle.rows.proofs.Firsts.{none_decides}
 use Rattle.rows.proofs.Flaws.{flawed_no_clash}
 use Rattle.rows.proofs.clashes.is_clash.Goals as goal
 
-pub returns-in-None : goal.returns-in-None
-returns-in-None c =
-    let rs = constraints c.args.rows.now in
-    record { clash = ((λ _. c.in-None.ensures), λ _. refl); excludes = λ _. excludes (used c.args.weights.now rs) rs c.in-None.ensures }
-
-pub returns-in-Some : goal.returns-in-Some
-returns-in-Some c =
+pub returns : goal.returns
+returns c =
     let w = c.args.weights.now in
     let rs = constraints c.args.rows.now in
-    record {
-      clash = ((λ e. absurd (false≢true e)), λ k. absurd (flawed_no_clash (used w rs) rs c.in-Some.field-0 (omega (arith, length-take (length rs) w.values, w.places)) c.in-Some.ensures k));
-      excludes = λ e. absurd (false≢true e);
-    }
+    let d = none_decides c.clash_flaw.result c.is_none.result c.clash_flaw.ensures (λ f. flawed_no_clash (used w rs) rs f (omega (arith, length-take (length rs) w.values, w.places))) c.is_none.ensures in
+    record { clash = d; excludes = λ e. excludes (used w rs) rs (d.0 e) }

@@ -4,7 +4,7 @@ use Rattle.rows.specs.Limits.{all_near}
 use Rattle.rows.proofs.combining.blend.Given as goal
 
 abbrev pub invariant-loop-i : goal.invariant-loop-i
-invariant-loop-i l =
+invariant-loop-i g l =
     (length l.out ≡ length l.xs)
-    × (take l.i l.out ≡ take l.i (add (scale l.m l.xs) (scale l.n l.ys)))
-    × (all_near (take l.i (add (scale l.m l.xs) (scale l.n l.ys))) ≡ true)
+    × (take l.i l.out ≡ take l.i (add (scale l.m.value l.xs) (scale l.n.value l.ys)))
+    × (all_near (take l.i (add (scale l.m.value l.xs) (scale l.n.value l.ys))) ≡ true)
