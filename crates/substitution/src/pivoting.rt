@@ -3,7 +3,6 @@ ghost use Rattle.std.specs.Prelude.{◌≡◌, ◌/◌, ◌<◌, length, pos, ne
 ghost use Rattle.std.specs.Option.{option_map};
 ghost use Rattle.integers.specs.Divisors.{gcd_of};
 ghost use Rattle.integers.specs.Vectors.{scale};
-ghost use Rattle.rows.specs.Limits.{Within};
 ghost use Rattle.rows.specs.Carrying.{numbers_of};
 ghost use Rattle.engine.specs.Verdicts.{number_beyond};
 ghost use Rattle.substitution.specs.Reduction.{first_fader, pivot_factor, cancel_one, cancel_all, contradiction};
@@ -13,7 +12,7 @@ use crate::kept::{Kept, Pivot};
 use crate::short_list::ShortList;
 use engine::Fault;
 use engine::fault::NUMBER;
-use rows::{Carried, Fader, ROWS, Weights, combine, parts};
+use rows::{Carried, Factor, Fader, ROWS, Weights, combine, parts};
 
 // The lowest fader with a coefficient other than 0.
 pub fn first_fader(row: &Carried) -> Option<Fader>
@@ -25,14 +24,16 @@ pub fn first_fader(row: &Carried) -> Option<Fader>
 }
 
 // By what the pivot row is multiplied to cancel a row's coefficient a against its own, b: the part of a without the common divisor, with the sign that b asks for.
-fn pivot_factor(a: i32, b: i32, part: i32) -> i32
+fn pivot_factor(a: i32, b: i32, part: Factor) -> Factor
     requires some { 0 < unsigned_abs a }
-    requires part { part ≡ pos (unsigned_abs a / gcd_of (unsigned_abs a) (unsigned_abs b)) }
-    requires within { Within part }
-    ensures value { result ≡ pivot_factor a b (gcd_of (unsigned_abs a) (unsigned_abs b)) }
-    ensures within { Within result }
+    requires part { part.value ≡ pos (unsigned_abs a / gcd_of (unsigned_abs a) (unsigned_abs b)) }
+    ensures { result.value ≡ pivot_factor a b (gcd_of (unsigned_abs a) (unsigned_abs b)) }
 {
-    if (a < 0) == (b > 0) { part } else { -part }
+    if (a < 0) == (b > 0) {
+        part
+    } else {
+        Factor { value: -part.value }
+    }
 }
 
 impl Pivot {

@@ -1,7 +1,6 @@
 use Rattle.std.proofs.Common.{◌≡◌, ℕ, ◌/◌, get_or, ℤ, pos, nat_abs, Some, sym, ap, ◌∙◌, w32, to_z, of_z}
 use Rattle.std.specs.Option.{option_map}
 use Rattle.integers.specs.Divisors.{gcd_of}
-use Rattle.rows.specs.Limits.{Within}
 use Rattle.rows.specs.Carrying.{Sum, numbers_of, combination, fits}
 use Rattle.rows.specs.declared.carried.Carried.{Carried}
 use Rattle.substitution.specs.Reduction.{pivot_factor, at, cancelled}
@@ -11,15 +10,15 @@ use Rattle.substitution.proofs.Cancels.{cancel_stays, cancel_takes, cancel_beyon
 use Rattle.substitution.proofs.kept.Pivot.cancel.Goals as goal
 
 -- the combination by the factors as the calls have them
-combination_is : (k : ℕ) (s p : Carried) (own other : ℤ) → Within own → Within other
+combination_is : (k : ℕ) (s p : Carried) (own other : ℤ)
     → (let A = to_z w32 (of_z w32 (at (numbers_of s) k)) in let B = to_z w32 (of_z w32 (at (numbers_of p) k)) in own ≡ pos (nat_abs B / gcd_of (nat_abs A) (nat_abs B)))
     → (let A = to_z w32 (of_z w32 (at (numbers_of s) k)) in let B = to_z w32 (of_z w32 (at (numbers_of p) k)) in other ≡ pivot_factor A B (gcd_of (nat_abs A) (nat_abs B)))
-    → combination (to_z w32 (of_z w32 own)) (numbers_of s) (to_z w32 (of_z w32 other)) (numbers_of p) ≡ cancelled k (numbers_of p) (numbers_of s)
-combination_is k s p own other w v e f =
+    → combination own (numbers_of s) other (numbers_of p) ≡ cancelled k (numbers_of p) (numbers_of s)
+combination_is k s p own other e f =
     let a = bits_are (at (numbers_of s) k) (s.within k) in
     let b = bits_are (at (numbers_of p) k) (p.within k) in
-    let m = bits_are own w ∙ e ∙ (λ j. pos (nat_abs (b j) / gcd_of (nat_abs (a j)) (nat_abs (b j)))) in
-    let n = bits_are other v ∙ f ∙ (λ j. pivot_factor (a j) (b j) (gcd_of (nat_abs (a j)) (nat_abs (b j)))) in
+    let m = e ∙ (λ j. pos (nat_abs (b j) / gcd_of (nat_abs (a j)) (nat_abs (b j)))) in
+    let n = f ∙ (λ j. pivot_factor (a j) (b j) (gcd_of (nat_abs (a j)) (nat_abs (b j)))) in
     λ j. combination (m j) (numbers_of s) (n j) (numbers_of p)
 
 pub returns-then-a-eq0 : goal.returns-then-a-eq0
@@ -33,7 +32,7 @@ returns-in_err-row c =
     let s = c.args.kept.now.row in
     let p = c.args.self.now.row in
     let k = c.place-place.result in
-    let e = combination_is k s p c.parts-part.result.1 c.pivot_factor-other.result c.parts-part.ensures.within.1 c.pivot_factor-other.ensures.within c.parts-part.ensures.second c.pivot_factor-other.ensures.value in
+    let e = combination_is k s p c.parts.result.1.value c.pivot_factor-other.result.value c.parts.ensures.second c.pivot_factor-other.ensures in
     rw (← c.place-place.ensures.value)
     (ap (option_map kept_of) c.from_residual.ensures
     ∙ cancel_beyond k (numbers_of p) (kept_of c.args.kept.now) (some_by_bits (get_or s.coefficients k (pos 0)) c.if-a-eq0.false) (sym (ap fits e) ∙ c.in_err-row.ensures))
@@ -43,7 +42,7 @@ returns c =
     let s = c.args.kept.now.row in
     let p = c.args.self.now.row in
     let k = c.place-place.result in
-    let e = combination_is k s p c.parts-part.result.1 c.pivot_factor-other.result c.parts-part.ensures.within.1 c.pivot_factor-other.ensures.within c.parts-part.ensures.second c.pivot_factor-other.ensures.value in
+    let e = combination_is k s p c.parts.result.1.value c.pivot_factor-other.result.value c.parts.ensures.second c.pivot_factor-other.ensures in
     let q = c.in_ok-row.ensures in
     rw (← c.place-place.ensures.value)
     (ap (λ (x : Sum). Some (record { kind = c.args.kept.now.kind; sum = x })) (q.1 ∙ e)
