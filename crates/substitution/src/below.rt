@@ -4,7 +4,7 @@ ghost use Rattle.rows.specs.Limits.{most_rows};
 ghost use Rattle.rows.specs.Rows.{constraint, constraints};
 ghost use Rattle.engine.specs.declared.fault.Fault.{Fault};
 ghost use Rattle.engine.specs.declared.refusal.Refusal.TheVariants.{TooLarge};
-ghost use Rattle.engine.specs.Verdicts.{Valid};
+ghost use Rattle.engine.specs.Verdicts.{Verdict, Valid};
 ghost use Rattle.engine.specs.States.{Says};
 ghost use Rattle.substitution.specs.Working.{handed_down};
 ghost use Rattle.substitution.specs.Lifting.{raised, lifted};
@@ -64,22 +64,25 @@ fn fault_of(refusal: Refusal) -> Fault
     }
 }
 
-// What the engine below says of the rows that are left. It refuses none of them.
-fn ask_below<E: Engine>(
-    below: &mut E,
-    count: u8,
+// What was said of the rows that are left, brought back to a list of so many rows: levels completed by the pivots, weights lifted, or a fault raised.
+fn bring_back(
+    said: Result<Answer, Fault>,
     left: &[Kept],
-    table: &mut [E::Cell],
+    pivots: &[Pivot],
+    listed: usize,
 ) -> Result<Answer, Fault>
-    requires valid { Valid count (map handed_down (kepts left.now)) }
-    requires room { E.Engine.cells ≤ length table.old }
-    ensures { Says (length left.now) (E.Engine.verdict count (map handed_down (kepts left.now))) result }
+    requires verdict { (below : Verdict) × Says (length left.now) below said }
+    requires few { (length left.now ≤ most_rows) × (listed ≤ most_rows) }
+    ensures { (below : Verdict) → Says (length left.now) below said → Says listed (lifted listed (kepts left.now) (latest_first pivots.now []) below) result }
 {
-    let rows = hand_down(left);
-    decide_rows(below, count, rows.as_slice(), table).map_err(fault_of)
+    match said.map_err(raise)? {
+        Answer::Preset(levels) => Ok(Answer::Preset(complete_all(pivots, &levels)?)),
+        Answer::Clash(weights) => Ok(Answer::Clash(lift(&weights, left, listed)?)),
+        Answer::Nothing => unreachable(),
+    }
 }
 
-// The same brought back to a list of so many rows: levels completed by the pivots, weights lifted, or a fault raised.
+// What the engine below says of the rows that are left, brought back. It refuses none of them.
 pub fn decide_left<E: Engine>(
     below: &mut E,
     count: u8,
@@ -93,12 +96,7 @@ pub fn decide_left<E: Engine>(
     requires room { E.Engine.cells ≤ length table.old }
     ensures { Says listed (lifted listed (kepts left.now) (latest_first pivots.now []) (E.Engine.verdict count (map handed_down (kepts left.now)))) result }
 {
-    match ask_below(below, count, left, table) {
-        Ok(answer) => match answer {
-            Answer::Preset(levels) => Ok(Answer::Preset(complete_all(pivots, &levels)?)),
-            Answer::Clash(weights) => Ok(Answer::Clash(lift(&weights, left, listed)?)),
-            Answer::Nothing => unreachable(),
-        },
-        Err(fault) => Err(raise(fault)),
-    }
+    let rows = hand_down(left);
+    let said = decide_rows(below, count, rows.as_slice(), table).map_err(fault_of);
+    bring_back(said, left, pivots, listed)
 }
