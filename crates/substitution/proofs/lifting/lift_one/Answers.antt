@@ -1,12 +1,12 @@
 use Rattle.std.proofs.Common.{◌≡◌, ℕ, ◌<◌, List, length, get_or, take, ℤ, pos, Some, None, Option, sym, ap, ◌∙◌, subst, arith, w32, to_z, SFits, rules}
 use Rattle.std.proofs.lemmas.List.{length-take-le, get_or-take, length_push}
 use Rattle.std.proofs.lemmas.Int.{to_z-of_z}
-use Rattle.std.proofs.lemmas.Slice.Zip.{zip_turn, zip_end}
+use Rattle.std.proofs.lemmas.Slice.Zip.{zip_turn}
 use Rattle.rows.proofs.Fits.{fits_32}
 use Rattle.substitution.specs.Lifting.{carried_weights}
 use Rattle.substitution.specs.Holding.{kepts}
 use Rattle.substitution.specs.declared.kept.Kept.{Kept as Held}
-use Rattle.substitution.proofs.Terms.{with_term, terms_none, terms_some, terms_end, carried_at, carried_length}
+use Rattle.substitution.proofs.Terms.{with_term, terms_none, terms_some, carried_at, carried_length}
 use Rattle.substitution.proofs.lifting.lift_one.Goals as goal
 
 -- what the call says, by the places of both lists
@@ -55,10 +55,3 @@ loop-weight-preserved c =
     rw (length_push c.loop-weight.yielded (c.in-Some.weight, c.in-Some.kept))
     (simp to_z-of_z (c.loop-weight.invariant.0 ∙ terms_some (take (length rows) ws) us i (omega (arith, t.1)) (omega (arith, t.1)) _ c.in_ok-sum.sum (v (Some c.in_ok-sum.sum) c.in_ok-sum.was)), (tt, tt), tt)
 
-pub returns : goal.returns
-returns c =
-    let ws = c.args.below.now.values in
-    let rows = c.args.rows.now in
-    let k : length (take (length rows) ws) ≡ length rows = length-take-le (length rows) ws (omega (arith, c.requires.0, c.args.below.now.places)) in
-    let e = zip_end ws rows c.loop-weight.yielded c.into_iter-weight-iterator.result c.loop-weight.weight-iterator c.next.new.self c.next.result (cc) (cc) c.loop-weight.yielded_by c.in-None.is c.next.ensures.steps in
-    terms_end (take (length rows) ws) (carried_weights c.args.place (kepts rows)) (length c.loop-weight.yielded) _ (omega (arith, e, c.requires.0, c.args.below.now.places)) ∙ sym c.loop-weight.invariant.0

@@ -1,11 +1,10 @@
-use Rattle.std.proofs.Common.{List, Some, sym, ap, ◌∙◌, arith}
+use Rattle.std.proofs.Common.{sym, ap, ◌∙◌, arith}
 use Rattle.std.specs.Option.{option_map}
-use Rattle.std.proofs.lemmas.List.{take_all}
 use Rattle.std.proofs.lemmas.Result.{err_from_is_err_and}
 use Rattle.rows.specs.Carrying.{numbers_of}
 use Rattle.substitution.specs.declared.kept.Kept.{Kept}
-use Rattle.substitution.specs.Reduction.{cancel_one, cancel_all}
-use Rattle.substitution.specs.Holding.{kept_of, kepts}
+use Rattle.substitution.specs.Reduction.{cancel_one}
+use Rattle.substitution.specs.Holding.{kept_of}
 use Rattle.substitution.proofs.Failing.{failed}
 use Rattle.substitution.proofs.Places.{left_more}
 use Rattle.substitution.proofs.Cancels.{cancel_more, cancel_stops}
@@ -30,10 +29,3 @@ loop-kept-preserved c =
       left_more l.kept-index c.args.rows.now l.rows l.invariant.1 c.in_ok-kept.field-0,
     )
 
-pub returns : goal.returns
-returns c =
-    let p = c.args.self.now in
-    let l = c.loop-kept in
-    ap (λ (x : List Kept). cancel_all p.fader.index (numbers_of p.row) (kepts x)) (sym (take_all l.kept-index c.args.rows.now (omega (arith, c.loop-kept-test.false))))
-    ∙ l.invariant.0
-    ∙ ap (λ (x : List Kept). Some (kepts x)) (take_all l.kept-index l.rows (omega (arith, l.auto.rows, c.loop-kept-test.false)))
