@@ -1,29 +1,12 @@
 -- A fader cancelled in one row after another. Assumes nothing.
-use Rattle.std.proofs.Common.{◌≡◌, ℕ, suc, ◌+◌, ◌<◌, Bool, true, false, cond, ltb, List, [], ◌∷◌, ◌++◌, length, get_or, take, drop, set, nat_abs, Some, None, Option, sym, refl, ap, ◌∙◌, arith}
+use Rattle.std.proofs.Common.{◌≡◌, ℕ, suc, ◌+◌, ◌<◌, List, [], ◌∷◌, ◌++◌, length, get_or, take, drop, set, Some, None, Option, sym, refl, ap, ◌∙◌, arith}
 use Rattle.std.proofs.lemmas.List.{map-append, take_more, take_more_set}
-use Rattle.rows.specs.Carrying.{Sum, fits}
+use Rattle.rows.specs.Carrying.{Sum}
 use Rattle.rows.proofs.Alls.{none_some}
 use Rattle.substitution.specs.declared.kept.Kept.{Kept as Held}
-use Rattle.substitution.specs.Reduction.{Kept, at, cancelled, cancel_one, also, cancel_all}
+use Rattle.substitution.specs.Reduction.{Kept, cancel_one, also, cancel_all}
 use Rattle.substitution.specs.Holding.{kept_of, kepts}
 use Rattle.substitution.proofs.Places.{split_at, same_at}
-
--- what one row becomes, by two tests
-module _ (k : ℕ) (p : Sum) (r : Kept) where
-  tested : Bool → Bool → Option Kept
-  tested some near = cond some (cond near (Some (record { kind = r.kind; sum = cancelled k p r.sum })) None) (Some r)
-
-  pub cancel_stays : ltb 0 (nat_abs (at r.sum k)) ≡ false → Some r ≡ cancel_one k p r
-  unfolding tested
-  cancel_stays e = sym (ap (λ (t : Bool). tested t (fits (cancelled k p r.sum))) e)
-
-  pub cancel_takes : ltb 0 (nat_abs (at r.sum k)) ≡ true → fits (cancelled k p r.sum) ≡ true → Some (record { kind = r.kind; sum = cancelled k p r.sum }) ≡ cancel_one k p r
-  unfolding tested
-  cancel_takes e f = sym (λ j. tested (e j) (f j))
-
-  pub cancel_beyond : ltb 0 (nat_abs (at r.sum k)) ≡ true → fits (cancelled k p r.sum) ≡ false → None ≡ cancel_one k p r
-  unfolding tested
-  cancel_beyond e f = sym (λ j. tested (e j) (f j))
 
 -- two lists of rows in one, if both are there
 abbrev pub joined : Option (List Kept) → Option (List Kept) → Option (List Kept)

@@ -24,4 +24,3 @@ loop-place-preserved c =
       within_set items j w c.loop-place.invariant.1 n,
       lift_more c.args.listed ws rs j items w (omega (arith, k, c.loop-place-test.true)) (omega (arith, k, c.loop-place-test.true, c.loop-place.invariant.0)) e c.loop-place.invariant.2,
     )
-

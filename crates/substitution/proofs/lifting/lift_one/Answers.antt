@@ -54,4 +54,3 @@ loop-weight-preserved c =
     let m : SFits w32 c.in_ok-sum.sum = search rules in
     rw (length_push c.loop-weight.yielded (c.in-Some.weight, c.in-Some.kept))
     (simp to_z-of_z (c.loop-weight.invariant.0 ∙ terms_some (take (length rows) ws) us i (omega (arith, t.1)) (omega (arith, t.1)) _ c.in_ok-sum.sum (v (Some c.in_ok-sum.sum) c.in_ok-sum.was)), (tt, tt), tt)
-

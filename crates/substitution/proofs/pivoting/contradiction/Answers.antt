@@ -20,4 +20,3 @@ invariant_of-result c =
       | then-row-gt0 w ↦ record { places = ap length (w.values-is ∙ w.negated-values.ensures) ∙ length_scale (negsuc 0) r.weights ∙ r.loads; within = subst EachWithin (sym (w.values-is ∙ w.negated-values.ensures)) (opposite_within r.weights r.light) }
       | else-row-gt0 w ↦ record { places = ap length w.values-is ∙ r.loads; within = subst EachWithin (sym w.values-is) r.light }
     ]
-

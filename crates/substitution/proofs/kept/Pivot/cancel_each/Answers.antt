@@ -28,4 +28,3 @@ loop-kept-preserved c =
       cancel_more p.fader.index (numbers_of p.row) l.kept-index c.args.rows.now l.rows c.kept-item.result c.loop-kept-test.true l.invariant.1 c.kept-item.is l.invariant.0 c.in_ok-kept.field-0 (omega (arith, l.auto.rows, c.loop-kept-test.true)) r,
       left_more l.kept-index c.args.rows.now l.rows l.invariant.1 c.in_ok-kept.field-0,
     )
-
