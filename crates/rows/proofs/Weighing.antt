@@ -22,6 +22,13 @@ weighed_length [] (r ∷ rows) p = absurd p
 weighed_length (w ∷ ws) [] p = absurd p
 weighed_length (w ∷ ws) (r ∷ rows) p = ap suc (weighed_length ws rows p.1)
 
+-- a row of kind below with a weight above 0 makes it strict
+pub strictly_at : (ws : List ℤ) (rows : List Constraint) (i : ℕ) (d : Constraint) → i < length ws → i < length rows → (get_or rows i d).kind ≡ Below → pos 0 <ℤ get_or ws i (pos 0) → Strictly ws rows
+strictly_at [] rows i d h k b p = absurd (omega arith)
+strictly_at (w ∷ ws) [] i d h k b p = absurd (omega arith)
+strictly_at (w ∷ ws) (r ∷ rows) zero d h k b p = inl (b, p)
+strictly_at (w ∷ ws) (r ∷ rows) (suc i) d h k b p = inr (strictly_at ws rows i d (omega arith) (omega arith) b p)
+
 -- weights past the rows count nothing
 pub dot_take : (ws ys : List ℤ) → dot (take (length ys) ws) ys ≡ dot ws ys
 dot_take [] [] = refl

@@ -1,29 +1,12 @@
 -- A fader cancelled in one row after another. Assumes nothing.
-use Rattle.std.proofs.Common.{◌≡◌, ℕ, suc, ◌+◌, ◌<◌, ◌≤◌, Bool, true, false, cond, ltb, List, [], ◌∷◌, ◌++◌, length, get_or, take, drop, set, nat_abs, Some, None, Option, sym, refl, ap, ◌∙◌, arith}
-use Rattle.std.proofs.lemmas.List.{map-append, take_more, take_more_set, take-take, get_or-take, length-take-le}
-use Rattle.rows.specs.Carrying.{Sum, fits}
+use Rattle.std.proofs.Common.{◌≡◌, ℕ, suc, ◌+◌, ◌<◌, List, [], ◌∷◌, ◌++◌, length, get_or, take, drop, set, Some, None, Option, sym, refl, ap, ◌∙◌, arith}
+use Rattle.std.proofs.lemmas.List.{map-append, take_more, take_more_set}
+use Rattle.rows.specs.Carrying.{Sum}
 use Rattle.rows.proofs.Alls.{none_some}
 use Rattle.substitution.specs.declared.kept.Kept.{Kept as Held}
-use Rattle.substitution.specs.Reduction.{Kept, at, cancelled, cancel_one, also, cancel_all}
+use Rattle.substitution.specs.Reduction.{Kept, cancel_one, also, cancel_all}
 use Rattle.substitution.specs.Holding.{kept_of, kepts}
 use Rattle.substitution.proofs.Places.{split_at, same_at}
-
--- what one row becomes, by two tests
-module _ (k : ℕ) (p : Sum) (r : Kept) where
-  tested : Bool → Bool → Option Kept
-  tested some near = cond some (cond near (Some (record { kind = r.kind; sum = cancelled k p r.sum })) None) (Some r)
-
-  pub cancel_stays : ltb 0 (nat_abs (at r.sum k)) ≡ false → Some r ≡ cancel_one k p r
-  unfolding tested
-  cancel_stays e = sym (ap (λ (t : Bool). tested t (fits (cancelled k p r.sum))) e)
-
-  pub cancel_takes : ltb 0 (nat_abs (at r.sum k)) ≡ true → fits (cancelled k p r.sum) ≡ true → Some (record { kind = r.kind; sum = cancelled k p r.sum }) ≡ cancel_one k p r
-  unfolding tested
-  cancel_takes e f = sym (λ j. tested (e j) (f j))
-
-  pub cancel_beyond : ltb 0 (nat_abs (at r.sum k)) ≡ true → fits (cancelled k p r.sum) ≡ false → None ≡ cancel_one k p r
-  unfolding tested
-  cancel_beyond e f = sym (λ j. tested (e j) (f j))
 
 -- two lists of rows in one, if both are there
 abbrev pub joined : Option (List Kept) → Option (List Kept) → Option (List Kept)
@@ -69,11 +52,10 @@ module _ (k : ℕ) (p : Sum) (i : ℕ) (o t : List Held) (c : Held) (g : i < len
       ∙ ap Some (sym (ap kepts (take_more_set t i d h) ∙ map-append kept_of (take i t) (d ∷ [])))
 
   -- it has a number beyond G
-  pub cancel_stops : (held : ℕ) → i < held → held ≤ length o → cancel_one k p (kept_of c) ≡ None → cancel_all k p (kepts (take held o)) ≡ None
-  cancel_stops held a b r =
-      let n : length (take held o) ≡ held = length-take-le held o b in
-      let rest = drop (i + 1) (take held o) in
-      let s : take held o ≡ take i o ++ c ∷ rest = split_at (take held o) i c (omega arith) ∙ (λ j. take-take i held o (omega arith) j ++ (get_or-take held o i c a ∙ e) j ∷ rest) in
+  pub cancel_stops : cancel_one k p (kept_of c) ≡ None → cancel_all k p (kepts o) ≡ None
+  cancel_stops r =
+      let rest = drop (i + 1) o in
+      let s : o ≡ take i o ++ c ∷ rest = split_at o i c g ∙ (λ j. take i o ++ e j ∷ rest) in
       ap (λ (x : List Held). cancel_all k p (kepts x)) s
       ∙ ap (cancel_all k p) (map-append kept_of (take i o) (c ∷ rest))
       ∙ cancel_append k p (kepts (take i o)) (kepts (c ∷ rest))

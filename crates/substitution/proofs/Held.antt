@@ -1,27 +1,18 @@
 -- The rows and pivots of the program, seen as those of the working. Assumes nothing.
-use Rattle.std.proofs.Common.{◌≡◌, ℕ, ◌+◌, ◌-◌, ◌<◌, ◌≤◌, List, [], ◌∷◌, ◌++◌, length, get_or, take, drop, set, sym, ap, ◌∙◌, arith}
-use Rattle.std.proofs.lemmas.List.{length-map, length-take-le, get_or-map, get_or-take, map-append, take-map, drop-map, take-take, take_more_set}
+use Rattle.std.proofs.Common.{◌≡◌, ℕ, suc, ◌+◌, ◌<◌, List, ◌++◌, length, get_or, take, drop, sym, ap, ◌∙◌, add-one}
+use Rattle.std.specs.List.{remove}
+use Rattle.std.proofs.lemmas.List.{length-map, get_or-map, map-append, take-map, drop-map}
 use Rattle.substitution.specs.declared.kept.Kept.{Kept as Held}
-use Rattle.substitution.specs.declared.kept.Pivot.{Pivot as HeldPivot}
-use Rattle.substitution.specs.Holding.{kept_of, kepts, pivot_of, latest_first}
-use Rattle.substitution.proofs.Latest.{latest_push}
+use Rattle.substitution.specs.Holding.{kept_of, kepts}
 
-module _ (held : ℕ) (rows : List Held) (h : held ≤ length rows) where
-  pub count_held : length (kepts (take held rows)) ≡ held
-  count_held = length-map (take held rows) kept_of ∙ length-take-le held rows h
+module _ (rows : List Held) where
+  pub count_held : length (kepts rows) ≡ length rows
+  count_held = length-map rows kept_of
 
-  pub held_at : (i : ℕ) (k : Held) → i < held → k ≡ get_or rows i k → get_or (kepts (take held rows)) i (kept_of k) ≡ kept_of k
-  held_at i k g e =
-      let n : length (take held rows) ≡ held = length-take-le held rows h in
-      get_or-map kept_of (take held rows) i k (kept_of k) (omega arith) ∙ ap kept_of (get_or-take held rows i k g ∙ sym e)
+  pub held_at : (i : ℕ) (k : Held) → i < length rows → k ≡ get_or rows i k → get_or (kepts rows) i (kept_of k) ≡ kept_of k
+  held_at i k g e = get_or-map kept_of rows i k (kept_of k) g ∙ ap kept_of (sym e)
 
-  pub held_without : (i : ℕ) (t : List Held) → i < held → take (held - 1) t ≡ take i rows ++ drop (i + 1) (take held rows)
-      → kepts (take (held - 1) t) ≡ take i (kepts (take held rows)) ++ drop (i + 1) (kepts (take held rows))
-  held_without i t g e =
-      ap kepts e
-      ∙ map-append kept_of (take i rows) (drop (i + 1) (take held rows))
-      ∙ (λ j. (sym (take-map kept_of i (take held rows) ∙ ap kepts (take-take i held rows (omega arith)))) j ++ (sym (drop-map kept_of (i + 1) (take held rows))) j)
-
--- one pivot more
-pub latest_more : (pivots : List HeldPivot) (i : ℕ) (p : HeldPivot) → i < length pivots → latest_first (take (i + 1) (set pivots i p)) [] ≡ pivot_of p ∷ latest_first (take i pivots) []
-latest_more pivots i p h = ap (λ (x : List HeldPivot). latest_first x []) (take_more_set pivots i p h) ∙ latest_push (take i pivots) p []
+  pub held_without : (i : ℕ) → kepts (remove rows i) ≡ take i (kepts rows) ++ drop (i + 1) (kepts rows)
+  held_without i =
+      map-append kept_of (take i rows) (drop (suc i) rows)
+      ∙ (λ j. sym (take-map kept_of i rows) j ++ (sym (drop-map kept_of (suc i) rows) ∙ ap (λ (n : ℕ). drop n (kepts rows)) (sym (add-one i))) j)

@@ -24,10 +24,10 @@ module _ (ps : List Held) (j k : ℕ) (p : Held) (e : j ≡ suc k) (h : k < leng
       ∙ latest_push (take k ps) p [])
 
   abbrev after : Option (List ℤ × ℕ) → Verdict
-  after o = elim o [ Some q ↦ all_completed (latest_first (take k ps) []) q.0 q.1 | None ↦ Verdict.fault (number_beyond p.fader) ]
+  after o = elim o [ Some q ↦ all_completed (latest_first (take k ps) []) q.0 q.1 | None ↦ Verdict.fault (number_beyond p.fader.index) ]
 
   pub completed_some : (next : Preset) → Some (terms_of next) ≡ completed (pivot_of p) ns d → all_completed (latest_first (take k ps) []) next.numerators next.denominator ≡ all_completed (latest_first (take j ps) []) ns d
   completed_some next s = ap after s ∙ sym opened
 
-  pub completed_none : None ≡ completed (pivot_of p) ns d → Verdict.fault (number_beyond p.fader) ≡ all_completed (latest_first (take j ps) []) ns d
+  pub completed_none : None ≡ completed (pivot_of p) ns d → Verdict.fault (number_beyond p.fader.index) ≡ all_completed (latest_first (take j ps) []) ns d
   completed_none s = ap after s ∙ sym opened

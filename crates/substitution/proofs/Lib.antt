@@ -1,3 +1,4 @@
+pub mod Failing
 pub mod Latest
 pub mod Terms
 pub mod Lifts

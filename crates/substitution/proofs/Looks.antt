@@ -1,78 +1,79 @@
 -- One look at the rows of the program: what it comes to is what the working comes to. Assumes nothing.
-use Rattle.std.proofs.Common.{◌≡◌, ℕ, ◌+◌, ◌-◌, ◌<◌, ◌≤◌, true, false, ltb, List, [], ◌∷◌, ◌++◌, length, get_or, take, drop, set, nat_abs, Some, None, sym, ap, ◌∙◌, arith}
+use Rattle.std.proofs.Common.{◌≡◌, ℕ, ◌+◌, ◌-◌, ◌<◌, true, false, ltb, List, [], ◌∷◌, ◌++◌, length, get_or, take, drop, nat_abs, not, Some, None, refl, sym, ap, ◌∙◌, arith}
+use denote.Enum.Bare.{sameb}
+use Rattle.std.specs.List.{remove}
+use Rattle.std.proofs.lemmas.Bool.{true≢false, false≢true}
+use Rattle.std.proofs.lemmas.List.Edits.{length-remove}
+use Rattle.rows.specs.contracts.kind.Kind.{the_type}
+use Rattle.rows.specs.declared.kind.Kind.{Kind}
+use Rattle.rows.specs.declared.kind.Kind.TheVariants.{AtMost, Below, Equal}
 use Rattle.engine.specs.Verdicts.{number_beyond}
 use Rattle.rows.specs.Carrying.{numbers_of}
 use Rattle.substitution.specs.declared.kept.Kept.{Kept as Held}
 use Rattle.substitution.specs.declared.kept.Pivot.{Pivot as HeldPivot}
-use Rattle.substitution.specs.declared.outcome.Progress.{Progress}
-use Rattle.substitution.specs.Reduction.{Kept, Pivot, Reduced.clashing, Reduced.faulty, is_equation, first_fader, cancel_all, contradiction, reduced}
+use Rattle.substitution.specs.Reduction.{Pivot, Reduced, Reduced.clashing, Reduced.faulty, is_equation, first_fader, cancel_all, contradiction, reduced}
 use Rattle.substitution.specs.Holding.{kept_of, kepts, latest_first}
-use Rattle.substitution.specs.Outcomes.{ahead, Onward}
+use Rattle.substitution.proofs.Latest.{latest_push}
 use Rattle.substitution.proofs.Turns.{passed, contradicted, emptied, stopped, solved}
-use Rattle.substitution.proofs.Held.{count_held, held_at, held_without, latest_more}
+use Rattle.substitution.proofs.Held.{count_held, held_at, held_without}
 
-abbrev pub passed_on : Progress → Progress
-passed_on p = record { place = p.place + 1; held = p.held; solved = p.solved }
+-- ---- the kind, by the program's test
 
-abbrev pub without : Progress → Progress
-without p = record { place = p.place; held = p.held - 1; solved = p.solved }
+pub not_equation : (k : Kind) → true ≡ not (sameb the_type k Equal) → is_equation k ≡ false
+not_equation AtMost e = refl
+not_equation Below e = refl
+not_equation Equal e = absurd (true≢false e)
 
-abbrev pub with_pivot : Progress → Progress
-with_pivot p = record { place = p.place; held = p.held - 1; solved = p.solved + 1 }
+pub equation : (k : Kind) → false ≡ not (sameb the_type k Equal) → is_equation k ≡ true
+equation AtMost e = absurd (false≢true e)
+equation Below e = absurd (false≢true e)
+equation Equal e = refl
 
-pub passed_onward : (p : Progress) → p.place < p.held → Onward p (passed_on p)
-passed_onward p g = record { nearer = omega arith; inside = omega arith; few = omega arith }
+-- ---- one row
 
-pub without_onward : (p : Progress) → p.place < p.held → Onward p (without p)
-without_onward p g = record { nearer = omega arith; inside = omega arith; few = omega arith }
-
-pub pivot_onward : (p : Progress) → p.place < p.held → Onward p (with_pivot p)
-pivot_onward p g = record { nearer = omega arith; inside = omega arith; few = omega arith }
+-- what the working makes of rows, pivots and a place in the rows
+abbrev pub ahead_at : List Held → List HeldPivot → ℕ → Reduced
+ahead_at rows pivots place = reduced (length rows - place) (take place (kepts rows)) (drop place (kepts rows)) (latest_first pivots [])
 
 -- the row k is looked at
-module _ (rows : List Held) (pivots : List HeldPivot) (p : Progress) (k : Held) (g : p.place < p.held) (h : p.held ≤ length rows) (e : k ≡ get_or rows p.place k) where
-  all : List Kept
-  all = kepts (take p.held rows)
-
+module _ (rows : List Held) (pivots : List HeldPivot) (place : ℕ) (k : Held) (g : place < length rows) (e : k ≡ get_or rows place k) where
   found : List Pivot
-  found = latest_first (take p.solved pivots) []
+  found = latest_first pivots []
 
-  within : p.place < length (kepts (take p.held rows))
-  within = omega (arith, count_held p.held rows h)
+  within : place < length (kepts rows)
+  within = omega (arith, count_held rows)
 
-  there : get_or (kepts (take p.held rows)) p.place (kept_of k) ≡ kept_of k
-  there = held_at p.held rows h p.place k g e
+  there : get_or (kepts rows) place (kept_of k) ≡ kept_of k
+  there = held_at rows place k g e
 
-  pub passes : is_equation k.kind ≡ false → ahead rows pivots (passed_on p) ≡ ahead rows pivots p
-  unfolding all found
-  passes a = sym (passed (p.held - p.place) (p.held - (p.place + 1)) p.place all (kept_of k) found (omega arith) within there a)
+  pub passes : is_equation k.kind ≡ false → ahead_at rows pivots (place + 1) ≡ ahead_at rows pivots place
+  unfolding found
+  passes a = sym (passed (length rows - place) (length rows - (place + 1)) place (kepts rows) (kept_of k) found (omega arith) within there a)
 
-  pub contradicts : is_equation k.kind ≡ true → first_fader 0 k.row.coefficients ≡ None → ltb 0 (nat_abs k.row.side) ≡ true → clashing (contradiction (numbers_of k.row)) ≡ ahead rows pivots p
-  unfolding all found
-  contradicts a b c = sym (contradicted (p.held - p.place) (p.held - (p.place + 1)) p.place all (kept_of k) found (omega arith) within there a b c)
+  pub contradicts : is_equation k.kind ≡ true → first_fader 0 k.row.coefficients ≡ None → ltb 0 (nat_abs k.row.side) ≡ true → clashing (contradiction (numbers_of k.row)) ≡ ahead_at rows pivots place
+  unfolding found
+  contradicts a b c = sym (contradicted (length rows - place) (length rows - (place + 1)) place (kepts rows) (kept_of k) found (omega arith) within there a b c)
 
   -- t has the rows without it
-  module _ (t : List Held) (w : take (p.held - 1) t ≡ take p.place rows ++ drop (p.place + 1) (take p.held rows)) (a : is_equation k.kind ≡ true) where
-    rest : List Kept
-    rest = kepts (take (p.held - 1) t)
+  module _ (t : List Held) (w : t ≡ remove rows place) (a : is_equation k.kind ≡ true) where
+    fewer : length t + 1 ≡ length rows
+    fewer = ap (λ (x : List Held). length x + 1) w ∙ length-remove rows place g
 
-    rest_is : kepts (take (p.held - 1) t) ≡ take p.place (kepts (take p.held rows)) ++ drop (p.place + 1) (kepts (take p.held rows))
-    rest_is = held_without p.held rows h p.place t g w
+    rest_is : kepts t ≡ take place (kepts rows) ++ drop (place + 1) (kepts rows)
+    rest_is = ap kepts w ∙ held_without rows place
 
-    pub empties : first_fader 0 k.row.coefficients ≡ None → ltb 0 (nat_abs k.row.side) ≡ false → ahead t pivots (without p) ≡ ahead rows pivots p
-    unfolding all found rest
-    empties b c = sym (emptied (p.held - p.place) (p.held - 1 - p.place) p.place all (kept_of k) found (omega arith) within there rest rest_is a b c)
+    pub empties : first_fader 0 k.row.coefficients ≡ None → ltb 0 (nat_abs k.row.side) ≡ false → ahead_at t pivots place ≡ ahead_at rows pivots place
+    unfolding found
+    empties b c = sym (emptied (length rows - place) (length t - place) place (kepts rows) (kept_of k) found (omega (arith, fewer)) within there (kepts t) rest_is a b c)
 
-    pub stops : (n : ℕ) → first_fader 0 k.row.coefficients ≡ Some n → cancel_all n (numbers_of k.row) (kepts (take (p.held - 1) t)) ≡ None → faulty (number_beyond n) ≡ ahead rows pivots p
-    unfolding all found rest
-    stops n b c = sym (stopped (p.held - p.place) (p.held - 1 - p.place) p.place all (kept_of k) found (omega arith) within there rest rest_is n a b c)
+    pub stops : (f : ℕ) → first_fader 0 k.row.coefficients ≡ Some f → cancel_all f (numbers_of k.row) (kepts t) ≡ None → faulty (number_beyond f) ≡ ahead_at rows pivots place
+    unfolding found
+    stops f b c = sym (stopped (length rows - place) (length t - place) place (kepts rows) (kept_of k) found (omega (arith, fewer)) within there (kepts t) rest_is f a b c)
 
     -- the fader was cancelled in t, giving v, and the pivot q noted
-    pub solves : (v : List Held) (q : HeldPivot) → p.solved < length pivots → q.row ≡ k.row → first_fader 0 k.row.coefficients ≡ Some q.fader
-        → cancel_all q.fader (numbers_of k.row) (kepts (take (p.held - 1) t)) ≡ Some (kepts (take (p.held - 1) v)) → ahead v (set pivots p.solved q) (with_pivot p) ≡ ahead rows pivots p
-    unfolding all found rest
-    solves v q room same b c =
-        let next = kepts (take (p.held - 1) v) in
-        ap (λ (ps : List Pivot). reduced (p.held - 1 - p.place) (take p.place next) (drop p.place next) ps)
-        (latest_more pivots p.solved q room ∙ (λ j. record { fader = q.fader; sum = numbers_of (same j) } ∷ found))
-        ∙ sym (solved (p.held - p.place) (p.held - 1 - p.place) p.place all (kept_of k) found (omega arith) within there rest rest_is q.fader next a b c)
+    pub solves : (v : List Held) (q : HeldPivot) → length v ≡ length t → q.row ≡ k.row → first_fader 0 k.row.coefficients ≡ Some q.fader.index
+        → cancel_all q.fader.index (numbers_of k.row) (kepts t) ≡ Some (kepts v) → ahead_at v (pivots ++ q ∷ []) place ≡ ahead_at rows pivots place
+    unfolding found
+    solves v q long same b c =
+        (λ j. reduced (long j - place) (take place (kepts v)) (drop place (kepts v)) ((latest_push pivots q [] ∙ (λ i. record { fader = q.fader.index; sum = numbers_of (same i) } ∷ found)) j))
+        ∙ sym (solved (length rows - place) (length t - place) place (kepts rows) (kept_of k) found (omega (arith, fewer)) within there (kepts t) rest_is q.fader.index (kepts v) a b c)

@@ -1,6 +1,6 @@
 -- Lists worked on from place to place, and numbers told from 0. Assumes nothing.
-use Rattle.std.proofs.Common.{◌≡◌, ℕ, ◌+◌, ◌-◌, ◌<◌, ◌≤◌, Bool, true, false, cond, ltb, List, [], ◌∷◌, ◌++◌, length, get_or, take, drop, set, ℤ, pos, negsuc, ◌-ℤ◌, ◌*ℤ◌, nat_abs, Some, sym, ap, ◌∙◌, inl, inr, arith, w32, to_z, of_z}
-use Rattle.std.proofs.lemmas.List.{at_drop_more, append_assoc, take_more, take_more_set, take-append-drop, drop_more, drop-drop, drop-set-lt, drop-append-le, get_or-drop, length-take-le}
+use Rattle.std.proofs.Common.{◌≡◌, ℕ, ◌+◌, ◌-◌, ◌<◌, ◌≤◌, true, false, ltb, List, [], ◌∷◌, ◌++◌, length, get_or, take, drop, set, ℤ, pos, negsuc, ◌-ℤ◌, ◌*ℤ◌, nat_abs, sym, ap, ◌∙◌, inl, inr, arith, w32, to_z, of_z}
+use Rattle.std.proofs.lemmas.List.{take_more, take_more_set, take-append-drop, drop_more, drop-drop, drop-set-lt, get_or-drop}
 use Rattle.std.proofs.lemmas.Int.{to_z-of_z}
 use Rattle.std.proofs.lemmas.Bool.{cases_Bool}
 use Rattle.integers.specs.Vectors.{scale}
@@ -9,7 +9,6 @@ use Rattle.integers.proofs.Laws.{neg-is-*ℤ}
 use Rattle.integers.proofs.VectorLaws.{scale_at, length_scale}
 use Rattle.rows.specs.Limits.{Within}
 use Rattle.rows.proofs.Fits.{fits_32}
-use Rattle.substitution.specs.Reduction.{first_fader}
 use Rattle.substitution.specs.Cancelling.{zero_is}
 
 -- ---- a number, by its bits
@@ -37,11 +36,6 @@ negated_more zs out i z h g e s =
 
 -- ---- lists
 
--- the number at place k, which is 0 or not
-pub fader_at : (zs : List ℤ) (k : ℕ) (b : Bool) → k < length zs → ltb 0 (nat_abs (get_or zs k (pos 0))) ≡ b → first_fader k (drop k zs) ≡ cond b (Some k) (first_fader (k + 1) (drop (k + 1) zs))
-fader_at zs k b h e =
-    at_drop_more (first_fader k) zs k (pos 0) h ∙ ap (λ (t : Bool). cond t (Some k) (first_fader (k + 1) (drop (k + 1) zs))) e
-
 pub split_at : {X : Type 0} (xs : List X) (i : ℕ) (d : X) → i < length xs → xs ≡ take i xs ++ get_or xs i d ∷ drop (i + 1) xs
 split_at xs i d h = sym (take-append-drop i xs) ∙ ap (λ (t : List _). take i xs ++ t) (drop_more xs i d h)
 
@@ -54,13 +48,3 @@ module _ {X : Type 0} (i : ℕ) (o t : List X) (left : drop i t ≡ drop i o) wh
 
   pub left_more : (d : X) → drop (i + 1) (set t i d) ≡ drop (i + 1) o
   left_more d = drop-set-lt (i + 1) t i d (omega arith) ∙ sym (drop-drop 1 i t) ∙ ap (drop 1) left ∙ drop-drop 1 i o
-
--- one row more moved up
-pub moved_more : {X : Type 0} (o t : List X) (place i : ℕ) (x : X) → place ≤ i → i + 1 < length o → i < length t → get_or o (i + 1) x ≡ x → take i t ≡ take place o ++ drop (place + 1) (take (i + 1) o)
-    → take (i + 1) (set t i x) ≡ take place o ++ drop (place + 1) (take (i + 1 + 1) o)
-moved_more o t place i x p h g e s =
-    let n : length (take (i + 1) o) ≡ i + 1 = length-take-le (i + 1) o (omega arith) in
-    take_more_set t i x g
-    ∙ ap (λ (z : List _). z ++ x ∷ []) s
-    ∙ append_assoc (take place o) (drop (place + 1) (take (i + 1) o)) (x ∷ [])
-    ∙ ap (λ (z : List _). take place o ++ z) (sym (ap (drop (place + 1)) (take_more o (i + 1) x h ∙ ap (λ (y : _). take (i + 1) o ++ y ∷ []) e) ∙ drop-append-le (place + 1) (take (i + 1) o) (x ∷ []) (omega arith)))

@@ -1,11 +1,11 @@
 -- Terms added one after another, each held against G. Assumes nothing.
-use Rattle.std.proofs.Common.{◌≡◌, ℕ, ◌+◌, ◌<◌, ◌≤◌, Bool, true, false, cond, ◌&&◌, List, [], ◌∷◌, length, get_or, drop, ℤ, pos, ◌+ℤ◌, ◌*ℤ◌, nat_abs, Some, None, Option, sym, refl, ap, ◌∙◌, subst, arith, w32, SFits}
-use Rattle.std.proofs.lemmas.List.{drop_more, drop_all}
+use Rattle.std.proofs.Common.{◌≡◌, ℕ, ◌+◌, ◌<◌, Bool, true, false, cond, ◌&&◌, List, [], ◌∷◌, length, get_or, drop, ℤ, pos, ◌+ℤ◌, ◌*ℤ◌, nat_abs, Some, None, Option, sym, refl, ap, ◌∙◌, subst, arith, w32, SFits}
+use Rattle.std.proofs.lemmas.List.{drop_more}
 use Rattle.std.proofs.lemmas.Bool.{leb-true}
 use Rattle.rows.specs.Limits.{largest, Within, near, narrowed}
 use Rattle.rows.proofs.Fits.{fits_32}
 use Rattle.rows.proofs.Alls.{none_some}
-use Rattle.rows.proofs.Blends.{some_narrowed, none_narrowed}
+use Rattle.rows.proofs.Blends.{some_narrowed}
 use Rattle.substitution.specs.declared.kept.Kept.{Kept as Held}
 use Rattle.substitution.specs.Lifting.{add_terms, carried_weights}
 use Rattle.substitution.specs.Holding.{kepts}
@@ -18,9 +18,6 @@ term_fits z t e =
 -- one term more, as the program adds it
 abbrev pub with_term : ℤ → ℤ → ℤ → Option ℤ
 with_term s w u = cond (near (w *ℤ u) && near (s +ℤ w *ℤ u)) (Some (s +ℤ w *ℤ u)) None
-
-pub term_none : (s w u : ℤ) → None ≡ narrowed (w *ℤ u) → None ≡ with_term s w u
-term_none s w u e = ap (λ (b : Bool). cond (b && near (s +ℤ w *ℤ u)) (Some (s +ℤ w *ℤ u)) None) (sym (none_narrowed (w *ℤ u) e))
 
 pub term_some : (s w u t : ℤ) → Some t ≡ narrowed (w *ℤ u) → narrowed (s +ℤ t) ≡ with_term s w u
 term_some s w u t e =
@@ -64,6 +61,3 @@ carried_at (x ∷ rows) (ℕ.suc i) place r h e = carried_at rows i place r (ome
 pub carried_length : (rows : List Held) (place : ℕ) → length (carried_weights place (kepts rows)) ≡ length rows
 carried_length [] place = refl
 carried_length (x ∷ rows) place = ap (λ (n : ℕ). ℕ.suc n) (carried_length rows place)
-
-pub terms_end : (ws us : List ℤ) (i : ℕ) (s : ℤ) → length ws ≤ i → Some s ≡ add_terms s (drop i ws) (drop i us)
-terms_end ws us i s h = sym (ap (λ (xs : List ℤ). add_terms s xs (drop i us)) (drop_all i ws h))

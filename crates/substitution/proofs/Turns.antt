@@ -1,9 +1,9 @@
 -- One turn of the working, with the rows in one list and a place in it. Assumes nothing.
 use Rattle.std.proofs.Common.{◌≡◌, ℕ, suc, ◌+◌, ◌<◌, Bool, true, false, ltb, List, [], ◌∷◌, ◌++◌, length, get_or, take, drop, nat_abs, Some, None, Option, sym, refl, ap, ◌∙◌, arith}
-use Rattle.std.proofs.lemmas.List.{at_drop_more, take_more, take_at, drop_at, take-append-drop, length-take-le}
+use Rattle.std.proofs.lemmas.List.{at_drop_more, take_more, take_at, drop_at, length-take-le}
 use Rattle.engine.specs.Verdicts.{number_beyond}
 use Rattle.rows.proofs.Alls.{none_some}
-use Rattle.substitution.specs.Reduction.{Kept, Pivot, Reduced, Reduced.clashing, Reduced.faulty, Reduced.left, is_equation, first_fader, cancel_all, contradiction, reduced}
+use Rattle.substitution.specs.Reduction.{Kept, Pivot, Reduced, Reduced.clashing, Reduced.faulty, is_equation, first_fader, cancel_all, contradiction, reduced}
 use Rattle.substitution.proofs.Cancels.{joined, cancel_append, cancel_length}
 
 -- the row r between those before it and those after
@@ -98,7 +98,3 @@ module _ (m n i : ℕ) (rows : List Kept) (r : Kept) (ps : List Pivot) (u : m �
         ∙ near n (take i rows) (drop (i + 1) rows) r ps k i (cancel_all k r.sum (take i rows)) (cancel_all k r.sum (drop (i + 1) rows)) next
         (λ bs e. cancel_length k r.sum (take i rows) bs e ∙ first_part)
         (sym (cancel_append k r.sum (take i rows) (drop (i + 1) rows)) ∙ ap (cancel_all k r.sum) (sym w) ∙ c)
-
--- no place is left to look at
-pub ended : (m i : ℕ) (rows : List Kept) (ps : List Pivot) → m ≡ 0 → left rows ps ≡ reduced m (take i rows) (drop i rows) ps
-ended m i rows ps e = sym (ap (λ (x : ℕ). reduced x (take i rows) (drop i rows) ps) e ∙ ap (λ (x : List Kept). left x ps) (take-append-drop i rows))

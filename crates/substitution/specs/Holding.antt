@@ -1,6 +1,7 @@
 -- The rows and pivots of the program as those of the working. Assumes nothing.
-use Rattle.std.specs.Prelude.{List, [], ◌∷◌, map, Ok, Err, Result}
+use Rattle.std.specs.Prelude.{ℕ, List, [], ◌∷◌, map, Ok, Err, Result}
 use Rattle.engine.specs.declared.fault.Fault.{Fault}
+use Rattle.rows.specs.declared.fader.Fader.{Fader}
 use Rattle.rows.specs.declared.preset.Preset.{Preset}
 use Rattle.rows.specs.Carrying.{numbers_of}
 use Rattle.engine.specs.Verdicts.{Verdict}
@@ -14,8 +15,11 @@ kept_of h = record { kind = h.kind; sum = numbers_of h.row }
 abbrev pub kepts : List Held → List Kept
 kepts hs = map kept_of hs
 
+abbrev pub index_of : Fader → ℕ
+index_of f = f.index
+
 abbrev pub pivot_of : HeldPivot → Pivot
-pivot_of p = record { fader = p.fader; sum = numbers_of p.row }
+pivot_of p = record { fader = p.fader.index; sum = numbers_of p.row }
 
 -- the pivots with the last first, before others
 abbrev pub latest_first : List HeldPivot → List Pivot → List Pivot

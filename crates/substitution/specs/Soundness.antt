@@ -141,23 +141,23 @@ module _ (count : ℕ) (rows : List Constraint) (valid : Valid count rows) where
 
   module _ (P : Reduced → Type 0)
       (at_clash : (r : Kept) → Traced count rows r → r.kind ≡ Equal → ((k : ℕ) → at r.sum k ≡ pos 0) → 0 < unsigned_abs r.sum.side → P (clashing (contradiction r.sum)))
-      (at-fault : (f : Fault) → P (faulty f))
-      (at-end : (rs : List Kept) (ps : List Pivot) → State rs [] ps → P (left rs ps)) where
+      (at_fault : (f : Fault) → P (faulty f))
+      (at_end : (rs : List Kept) (ps : List Pivot) → State rs [] ps → P (left rs ps)) where
     reduced_keeps : (n : ℕ) (before after : List Kept) (ps : List Pivot) → State before after ps → P (reduced n before after ps)
-    reduced_keeps zero before after ps st = at-end (before ++ after) ps (record {
+    reduced_keeps zero before after ps st = at_end (before ++ after) ps (record {
       short = omega (arith, st.short, length-append before after);
       earlier = All-append (Traced count rows) before after st.earlier st.later;
       later = tt;
       completes = λ ns d w p q. let h = unjoin (Met ns d) before after p in st.completes ns d w h.0 h.1;
     })
-    reduced_keeps (suc n) before [] ps st = at-end before ps st
+    reduced_keeps (suc n) before [] ps st = at_end before ps st
     reduced_keeps (suc n) before (r ∷ after) ps st = by (reduced_keeps n) (is_equation r.kind) refl
       where
         solved_for : ((before after : List Kept) (ps : List Pivot) → State before after ps → P (reduced n before after ps)) → r.kind ≡ Equal → (k : ℕ) → 0 < unsigned_abs (at r.sum k)
             → (o m : Option (List Kept)) → cancel_all k r.sum before ≡ o → cancel_all k r.sum after ≡ m
             → P (elim o [ None ↦ Reduced.faulty (number_beyond k) | Some bs ↦ elim m [ None ↦ Reduced.faulty (number_beyond k) | Some rest ↦ reduced n bs rest (record { fader = k; sum = r.sum } ∷ ps) ] ])
-        solved_for ih equal k solvable None m e f = at-fault (number_beyond k)
-        solved_for ih equal k solvable (Some bs) None e f = at-fault (number_beyond k)
+        solved_for ih equal k solvable None m e f = at_fault (number_beyond k)
+        solved_for ih equal k solvable (Some bs) None e f = at_fault (number_beyond k)
         solved_for ih equal k solvable (Some bs) (Some rest) e f =
             ih bs rest (record { fader = k; sum = r.sum } ∷ ps) (substituted before r after ps equal k solvable st bs rest (all_become k r.sum before bs e) (all_become k r.sum after rest f))
 
@@ -203,9 +203,9 @@ module _ (count : ℕ) (rows : List Constraint) (valid : Valid count rows) where
 
   -- ---- over an engine whose verdicts are right
 
-  module _ (below : ℕ → List Constraint → Verdict) (right-below : (count : ℕ) (rows : List Constraint) → Valid count rows → Right count rows (below count rows)) where
+  module _ (below : ℕ → List Constraint → Verdict) (right_below : (count : ℕ) (rows : List Constraint) → Valid count rows → Right count rows (below count rows)) where
     finished : (rs : List Kept) (ps : List Pivot) → State rs [] ps → Right count rows (decided below count (length rows) (left rs ps))
-    finished rs ps st = by (below count (map handed_down rs)) (right-below count (map handed_down rs) (handed rs ps st))
+    finished rs ps st = by (below count (map handed_down rs)) (right_below count (map handed_down rs) (handed rs ps st))
       where
         weights : (ws : List ℤ) → Right count (map handed_down rs) (Verdict.clash ws) → (o : Result (List ℤ) Fault) → lifted_weights (length rows) 0 ws rs ≡ o → Right count rows (weights_verdict o)
         weights ws c (Ok vs) e = lifted_clash count rows valid.short ws rs st.earlier c vs e

@@ -195,24 +195,24 @@ module _ (count : ℕ) (rows : List Constraint) (k : ℕ) (q : Kept) (equal : q.
       let c = cancelled k p s in
       let above : pos 0 <ℤ m = (let h = own_above k p s solvable in omega (arith, linear)) in
       let near_parts = and_parts (all_near c.coefficients) (near c.side && all_near c.weights) fit in
-      let near-rest = and_parts (near c.side) (all_near c.weights) near_parts.1 in
+      let near_rest = and_parts (near c.side) (all_near c.weights) near_parts.1 in
       let sum_of : (ys : List ℤ) → dot c.weights ys ≡ m *ℤ dot s.weights ys +ℤ n *ℤ dot p.weights ys = λ ys. dot_add (scale m s.weights) (scale n p.weights) ys ∙ (λ i. dot_scale m s.weights ys i +ℤ dot_scale n p.weights ys i) in
       let other = even_scale n p.weights rows (tq.even equal) in
-      let other-up = even_upward (scale n p.weights) rows other in
+      let other_up = even_upward (scale n p.weights) rows other in
       record {
         valid = record {
           places = blend_length m n s.coefficients p.coefficients (t.valid.places ∙ sym tq.valid.places) ∙ t.valid.places;
           within = all_near_each c.coefficients near_parts.0;
-          bounded = near_within c.side near-rest.0;
+          bounded = near_within c.side near_rest.0;
           unused = λ j h. cancelled_at k p s j ∙ (λ i. m *ℤ t.valid.unused j h i +ℤ n *ℤ tq.valid.unused j h i) ∙ (λ i. *ℤ-zero m i +ℤ *ℤ-zero n i);
         };
         long = blend_length m n s.weights p.weights (t.long ∙ sym tq.long) ∙ t.long;
-        within = all_near_each c.weights near-rest.1;
+        within = all_near_each c.weights near_rest.1;
         columns = λ j. sum_of (map (λ r. slice_index_or r.coefficients j (pos 0)) rows) ∙ (λ i. m *ℤ t.columns j i +ℤ n *ℤ tq.columns j i) ∙ sym (cancelled_at k p s j);
         totals = sum_of (map (λ r. r.side) rows) ∙ (λ i. m *ℤ t.totals i +ℤ n *ℤ tq.totals i);
         even = λ e. even_add (scale m s.weights) (scale n p.weights) rows (even_scale m s.weights rows (t.even e)) other;
-        upward = upward_add (scale m s.weights) (scale n p.weights) rows (upward_scale m s.weights rows (omega (arith, linear)) t.upward) other-up;
-        strictly = λ e. strictly_left (scale m s.weights) (scale n p.weights) rows (strictly_scale m s.weights rows above (t.strictly e)) other-up;
+        upward = upward_add (scale m s.weights) (scale n p.weights) rows (upward_scale m s.weights rows (omega (arith, linear)) t.upward) other_up;
+        strictly = λ e. strictly_left (scale m s.weights) (scale n p.weights) rows (strictly_scale m s.weights rows above (t.strictly e)) other_up;
       }
 
   pub becomes_traced : (r s : Kept) → Becomes k q.sum r s → Traced count rows r → Traced count rows s

@@ -1,8 +1,10 @@
 // The rows that are left, decided by the engine below, and its answer brought back to the list. Assumes nothing.
-ghost use Rattle.std.specs.Prelude.{◌≡◌, ◌≤◌, [], map, length, take};
+ghost use Rattle.std.specs.Prelude.{◌≡◌, ◌≤◌, [], map, length};
 ghost use Rattle.rows.specs.Limits.{most_rows};
 ghost use Rattle.rows.specs.Rows.{constraint, constraints};
-ghost use Rattle.engine.specs.Verdicts.{Valid};
+ghost use Rattle.engine.specs.declared.fault.Fault.{Fault};
+ghost use Rattle.engine.specs.declared.refusal.Refusal.TheVariants.{TooLarge};
+ghost use Rattle.engine.specs.Verdicts.{Verdict, Valid};
 ghost use Rattle.engine.specs.States.{Says};
 ghost use Rattle.substitution.specs.Working.{handed_down};
 ghost use Rattle.substitution.specs.Lifting.{raised, lifted};
@@ -11,8 +13,9 @@ ghost use Rattle.substitution.specs.Holding.{kept_of, kepts, latest_first};
 use crate::kept::{Kept, Pivot};
 use crate::levels::complete_all;
 use crate::lifting::lift;
+use crate::short_list::ShortList;
 use engine::{Answer, Engine, Fault, Refusal, decide_rows};
-use rows::{ROWS, Row};
+use rows::Row;
 
 // A fault from below, one layer up.
 fn raise(fault: Fault) -> Fault
@@ -38,40 +41,48 @@ impl Kept {
     }
 }
 
-// The rows that are left fill the first places.
-fn hand_down(left: &[Kept], rows: &mut [Row])
-    requires { length left.now ≤ length rows.old }
-    ensures { constraints (take (length left.now) rows.new) ≡ map handed_down (kepts left.now) }
+// The rows that are left, as they are handed down.
+fn hand_down(left: &[Kept]) -> ShortList<Row>
+    requires { length left.now ≤ most_rows }
+    ensures { constraints result ≡ map handed_down (kepts left.now) }
 {
-    for i in 0..left.len() {
-        let kept = left[i];
-        rows[i] = kept.handed_down();
+    let mut rows = ShortList::new(Row::zero());
+    for kept in left {
+        rows.push(kept.handed_down());
+    }
+    rows
+}
+
+// The fault of a refusal that is one.
+fn fault_of(refusal: Refusal) -> Fault
+    requires { (fault : Fault) × (refusal ≡ TooLarge fault) }
+    ensures { refusal ≡ TooLarge result }
+{
+    match refusal {
+        Refusal::TooLarge(fault) => fault,
+        _ => unreachable(),
     }
 }
 
-// What the engine below says of the rows that are left. It refuses none of them.
-fn ask_below<E: Engine>(
-    below: &mut E,
-    count: u8,
+// What was said of the rows that are left, brought back to a list of so many rows: levels completed by the pivots, weights lifted, or a fault raised.
+fn bring_back(
+    said: Result<Answer, Fault>,
     left: &[Kept],
-    table: &mut [E::Cell],
+    pivots: &[Pivot],
+    listed: usize,
 ) -> Result<Answer, Fault>
-    requires valid { Valid count (map handed_down (kepts left.now)) }
-    requires room { E.Engine.cells ≤ length table.old }
-    ensures { Says (length left.now) (E.Engine.verdict count (map handed_down (kepts left.now))) result }
+    requires verdict { (below : Verdict) × Says (length left.now) below said }
+    requires few { (length left.now ≤ most_rows) × (listed ≤ most_rows) }
+    ensures { (below : Verdict) → Says (length left.now) below said → Says listed (lifted listed (kepts left.now) (latest_first pivots.now []) below) result }
 {
-    let mut rows = [Row::zero(); ROWS];
-    hand_down(left, &mut rows);
-    match decide_rows(below, count, &rows[..left.len()], table) {
-        Ok(answer) => Ok(answer),
-        Err(refusal) => match refusal {
-            Refusal::TooLarge(fault) => Err(fault),
-            _ => unreachable(),
-        },
+    match said.map_err(raise)? {
+        Answer::Preset(levels) => Ok(Answer::Preset(complete_all(pivots, &levels)?)),
+        Answer::Clash(weights) => Ok(Answer::Clash(lift(&weights, left, listed)?)),
+        Answer::Nothing => unreachable(),
     }
 }
 
-// The same brought back to a list of so many rows: levels completed by the pivots, weights lifted, or a fault raised.
+// What the engine below says of the rows that are left, brought back. It refuses none of them.
 pub fn decide_left<E: Engine>(
     below: &mut E,
     count: u8,
@@ -85,12 +96,7 @@ pub fn decide_left<E: Engine>(
     requires room { E.Engine.cells ≤ length table.old }
     ensures { Says listed (lifted listed (kepts left.now) (latest_first pivots.now []) (E.Engine.verdict count (map handed_down (kepts left.now)))) result }
 {
-    match ask_below(below, count, left, table) {
-        Ok(answer) => match answer {
-            Answer::Preset(levels) => Ok(Answer::Preset(complete_all(pivots, &levels)?)),
-            Answer::Clash(weights) => Ok(Answer::Clash(lift(&weights, left, listed)?)),
-            Answer::Nothing => unreachable(),
-        },
-        Err(fault) => Err(raise(fault)),
-    }
+    let rows = hand_down(left);
+    let said = decide_rows(below, count, rows.as_slice(), table).map_err(fault_of);
+    bring_back(said, left, pivots, listed)
 }

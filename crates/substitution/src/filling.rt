@@ -1,5 +1,5 @@
 // The list of rows as rows that stand, and what fills the places that are not used. Assumes nothing.
-ghost use Rattle.std.specs.Prelude.{◌≡◌, ◌≤◌, length, take, replicate, pos, slice_set};
+ghost use Rattle.std.specs.Prelude.{◌≡◌, ◌≤◌, length, replicate, pos, slice_set};
 ghost use Rattle.rows.specs.declared.kind.Kind.TheVariants.{AtMost};
 ghost use Rattle.rows.specs.Limits.{faders, most_rows};
 ghost use Rattle.rows.specs.Rows.{constraint, constraints};
@@ -8,7 +8,8 @@ ghost use Rattle.substitution.specs.Reduction.{kept_rows};
 ghost use Rattle.substitution.specs.Holding.{kept_of, kepts, pivot_of};
 
 use crate::kept::{Kept, Pivot};
-use rows::{Carried, FADERS, ROWS, Row};
+use crate::short_list::ShortList;
+use rows::{Carried, FADERS, Fader, ROWS, Row};
 
 impl Kept {
     // The row at a place of the list, with weight 1 on itself.
@@ -37,7 +38,7 @@ impl Pivot {
         let mut coefficients = [0; FADERS];
         coefficients[0] = 1;
         Pivot {
-            fader: 0,
+            fader: Fader { index: 0 },
             row: Carried {
                 coefficients,
                 side: 0,
@@ -47,12 +48,14 @@ impl Pivot {
     }
 }
 
-// The rows of the list fill the first places.
-pub fn fill(held: &mut [Kept], rows: &[Row])
-    requires { length rows.now ≤ length held.old }
-    ensures { kepts (take (length rows.now) held.new) ≡ kept_rows 0 (constraints rows.now) }
+// The rows of the list as rows that stand, each at its place.
+pub fn standing(rows: &[Row]) -> ShortList<Kept>
+    requires { length rows.now ≤ most_rows }
+    ensures { kepts result ≡ kept_rows 0 (constraints rows.now) }
 {
-    for i in 0..rows.len() {
-        held[i] = Kept::listed(&rows[i], i);
+    let mut held = ShortList::new(Kept::blank());
+    for (place, row) in rows.iter().enumerate() {
+        held.push(Kept::listed(row, place));
     }
+    held
 }

@@ -6,12 +6,11 @@ ghost use Rattle.substitution.specs.Working.{substitution_verdict};
 ghost use Rattle.substitution.specs.Soundness.{sound_over};
 
 use crate::below::decide_left;
-use crate::filling::fill;
-use crate::kept::{Kept, Pivot};
-use crate::outcome::Outcome;
+use crate::filling::standing;
 use crate::reducing::reduce;
+use crate::stop::Stop;
 use engine::{Answer, Engine, Fault, Refusal, State};
-use rows::{ROWS, Row};
+use rows::Row;
 
 // Its own state, and the engine that decides the rows without equations.
 #[derive(Drop)]
@@ -40,19 +39,17 @@ fn work_out<E: Engine>(state: &State, below: &mut E, table: &mut [E::Cell]) -> R
     ensures { Says state.now.len (substitution_verdict E.Engine.verdict state.now.count (state_rows state.now)) result }
 {
     let rows = &state.rows[..state.len as usize];
-    let mut held = [Kept::blank(); ROWS];
-    let mut pivots = [Pivot::blank(); ROWS];
-    fill(&mut held, rows);
-    match reduce(&mut held, rows.len(), &mut pivots)? {
-        Outcome::Clash(weights) => Ok(Answer::Clash(weights)),
-        Outcome::Left(end) => decide_left(
+    match reduce(standing(rows)) {
+        Ok(end) => decide_left(
             below,
             state.count,
-            &held[..end.held],
-            &pivots[..end.solved],
+            end.rows.as_slice(),
+            end.pivots.as_slice(),
             rows.len(),
             table,
         ),
+        Err(Stop::Clash(weights)) => Ok(Answer::Clash(weights)),
+        Err(Stop::Beyond(fault)) => Err(fault),
     }
 }
 

@@ -1,7 +1,6 @@
 // The levels of the engine below, completed by the pivots from the last one back. Assumes nothing.
 ghost use Rattle.std.specs.Prelude.{◌≡◌, ◌^◌, ◌<◌, [], pos, neg_ℤ, if◌then◌else◌, int_lt, slice_set, unsigned_abs};
 ghost use Rattle.std.specs.Option.{option_map};
-ghost use Rattle.rows.specs.Limits.{faders};
 ghost use Rattle.rows.specs.Presets.{terms_of};
 ghost use Rattle.substitution.specs.Lifting.{completed, all_completed};
 ghost use Rattle.substitution.specs.Holding.{pivot_of, latest_first, level_verdict};
@@ -9,15 +8,14 @@ ghost use Rattle.substitution.specs.Holding.{pivot_of, latest_first, level_verdi
 use crate::kept::Pivot;
 use engine::Fault;
 use engine::fault::NUMBER;
-use rows::Preset;
+use rows::{Fader, Preset};
 
 // The levels with one fader at 0.
-fn without(levels: &Preset, fader: usize) -> Preset
-    requires { fader < faders }
-    ensures { terms_of result ≡ (slice_set levels.now.numerators fader (pos 0), levels.now.denominator) }
+fn without(levels: &Preset, fader: Fader) -> Preset
+    ensures { terms_of result ≡ (slice_set levels.now.numerators fader.index (pos 0), levels.now.denominator) }
 {
     let mut numerators = levels.numerators;
-    numerators[fader] = 0;
+    numerators[fader.place()] = 0;
     Preset {
         numerators,
         denominator: levels.denominator,
@@ -37,12 +35,12 @@ impl Pivot {
     pub fn complete(&self, levels: &Preset) -> Option<Preset>
         ensures { option_map terms_of result ≡ completed (pivot_of self.now) levels.now.numerators levels.now.denominator }
     {
-        let fader = self.fader as usize;
-        let coefficient = self.row.coefficients[fader];
-        let left = without(levels, fader).remaining(&self.row);
+        let place = self.fader.place();
+        let coefficient = self.row.coefficients[place];
+        let left = without(levels, self.fader).remaining(&self.row);
         let size = coefficient.unsigned_abs();
         let mut numerators = levels.scaled(size);
-        numerators[fader] = turned(left, coefficient);
+        numerators[place] = turned(left, coefficient);
         Preset::least(&numerators, size as u64 * levels.denominator as u64)
     }
 }
@@ -52,12 +50,10 @@ pub fn complete_all(pivots: &[Pivot], below: &Preset) -> Result<Preset, Fault>
     ensures { level_verdict result ≡ all_completed (latest_first pivots.now []) below.now.numerators below.now.denominator }
 {
     let mut levels = *below;
-    for i in (0..pivots.len()).rev() {
-        let pivot = pivots[i];
-        match pivot.complete(&levels) {
-            Some(next) => levels = next,
-            None => return Err(Fault::new(NUMBER, pivot.fader)),
-        }
+    for pivot in pivots.iter().rev() {
+        levels = pivot
+            .complete(&levels)
+            .ok_or(Fault::new(NUMBER, pivot.fader.index))?;
     }
     Ok(levels)
 }

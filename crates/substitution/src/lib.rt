@@ -7,9 +7,11 @@ mod kept;
 pub mod layer;
 mod levels;
 mod lifting;
-mod outcome;
 mod pivoting;
 mod reducing;
+mod reduction;
 pub mod rightness;
+mod short_list;
+mod stop;
 
 pub use layer::Substitution;

@@ -14,9 +14,7 @@ use rows::{ROWS, Weights, narrow};
 fn add_term(sum: i32, weight: i32, carried: i32) -> Option<i32>
     ensures { result ≡ (if near (weight *ℤ carried) && near (sum +ℤ weight *ℤ carried) then Some (sum +ℤ weight *ℤ carried) else None) }
 {
-    let Some(term) = narrow(product(weight, carried)) else {
-        return None;
-    };
+    let term = narrow(product(weight, carried))?;
     narrow(sum as i64 + term as i64)
 }
 
@@ -26,12 +24,8 @@ fn lift_one(below: &Weights, rows: &[Kept], place: usize) -> Option<i32>
     ensures { result ≡ add_terms (pos 0) (take (length rows.now) below.now.values) (carried_weights place (kepts rows.now)) }
 {
     let mut sum = 0i32;
-    for i in 0..rows.len() {
-        let kept = rows[i];
-        let Some(next) = add_term(sum, below.values[i], kept.row.weights[place]) else {
-            return None;
-        };
-        sum = next;
+    for (weight, kept) in below.values.iter().zip(rows) {
+        sum = add_term(sum, *weight, kept.row.weights[place])?;
     }
     Some(sum)
 }
@@ -42,11 +36,8 @@ pub fn lift(below: &Weights, rows: &[Kept], listed: usize) -> Result<Weights, Fa
     ensures { MatchResult result (λ w. lifted_weights listed 0 (take (length rows.now) below.now.values) (kepts rows.now) ≡ Ok (take listed w.values)) (λ f. lifted_weights listed 0 (take (length rows.now) below.now.values) (kepts rows.now) ≡ Err f) }
 {
     let mut values = [0; ROWS];
-    for j in 0..listed {
-        match lift_one(below, rows, j) {
-            Some(weight) => values[j] = weight,
-            None => return Err(Fault::new(WEIGHT, j as u8)),
-        }
+    for (place, value) in values[..listed].iter_mut().enumerate() {
+        *value = lift_one(below, rows, place).ok_or(Fault::new(WEIGHT, place as u8))?;
     }
     Ok(Weights { values })
 }

@@ -1,97 +1,92 @@
 // One equation put to use: the fader that it is solved for, that fader cancelled in the other rows, and what it says without one. Assumes nothing.
-ghost use Rattle.std.specs.Prelude.{◌≡◌, ◌+◌, ◌-◌, ◌/◌, ◌<◌, ◌≤◌, true, false, ◌++◌, length, take, drop, pos, negsuc, IfSome, Some, None, slice_index_or, unsigned_abs};
+ghost use Rattle.std.specs.Prelude.{◌≡◌, ◌/◌, ◌<◌, length, pos, negsuc, IfSome, MatchResult, Some, None, slice_index_or, unsigned_abs};
 ghost use Rattle.std.specs.Option.{option_map};
 ghost use Rattle.integers.specs.Divisors.{gcd_of};
 ghost use Rattle.integers.specs.Vectors.{scale};
-ghost use Rattle.rows.specs.Limits.{faders, Within, EachWithin};
 ghost use Rattle.rows.specs.Carrying.{numbers_of};
+ghost use Rattle.engine.specs.Verdicts.{number_beyond};
 ghost use Rattle.substitution.specs.Reduction.{first_fader, pivot_factor, cancel_one, cancel_all, contradiction};
-ghost use Rattle.substitution.specs.Holding.{kept_of, kepts};
+ghost use Rattle.substitution.specs.Holding.{kept_of, kepts, index_of};
 
-use crate::kept::Kept;
-use rows::{Carried, FADERS, ROWS, Weights, combine, parts};
+use crate::kept::{Kept, Pivot};
+use crate::short_list::ShortList;
+use engine::Fault;
+use engine::fault::NUMBER;
+use rows::{Carried, Factor, Fader, ROWS, Weights, combine, parts};
 
 // The lowest fader with a coefficient other than 0.
-pub fn first_fader(row: &Carried) -> Option<u8>
-    ensures value { result ≡ first_fader 0 row.now.coefficients }
-    ensures solvable { IfSome result (λ k. (k < faders) × (0 < unsigned_abs (slice_index_or row.now.coefficients k (pos 0)))) }
+pub fn first_fader(row: &Carried) -> Option<Fader>
+    ensures value { option_map index_of result ≡ first_fader 0 row.now.coefficients }
+    ensures solvable { IfSome result (λ f. 0 < unsigned_abs (slice_index_or row.now.coefficients f.index (pos 0))) }
 {
-    for k in 0..FADERS {
-        if row.coefficients[k] != 0 {
-            return Some(k as u8);
-        }
-    }
-    None
+    let place = row.coefficients.iter().position(|a| *a != 0)?;
+    Some(Fader { index: place as u8 })
 }
 
 // By what the pivot row is multiplied to cancel a row's coefficient a against its own, b: the part of a without the common divisor, with the sign that b asks for.
-fn pivot_factor(a: i32, b: i32, part: i32) -> i32
+fn pivot_factor(a: i32, b: i32, part: Factor) -> Factor
     requires some { 0 < unsigned_abs a }
-    requires part { part ≡ pos (unsigned_abs a / gcd_of (unsigned_abs a) (unsigned_abs b)) }
-    requires within { Within part }
-    ensures value { result ≡ pivot_factor a b (gcd_of (unsigned_abs a) (unsigned_abs b)) }
-    ensures within { Within result }
+    requires part { part.value ≡ pos (unsigned_abs a / gcd_of (unsigned_abs a) (unsigned_abs b)) }
+    ensures { result.value ≡ pivot_factor a b (gcd_of (unsigned_abs a) (unsigned_abs b)) }
 {
-    if (a < 0) == (b > 0) { part } else { -part }
-}
-
-// The row with the fader cancelled by the pivot row; none where a number is beyond G.
-fn cancel(kept: &Kept, pivot: &Carried, fader: usize) -> Option<Kept>
-    requires { fader < faders }
-    ensures { option_map kept_of result ≡ cancel_one fader (numbers_of pivot.now) (kept_of kept.now) }
-{
-    let a = kept.row.coefficients[fader];
-    if a == 0 {
-        return Some(*kept);
+    if (a < 0) == (b > 0) {
+        part
+    } else {
+        Factor { value: -part.value }
     }
-    let b = pivot.coefficients[fader];
-    let (part, own) = parts(a, b);
-    let other = pivot_factor(a, b, part);
-    let Some(row) = combine(own, &kept.row, other, pivot) else {
-        return None;
-    };
-    Some(Kept {
-        kind: kept.kind,
-        row,
-    })
 }
 
-// Cancels the fader in the first rows, in place; whether all their numbers stay within G.
-pub fn cancel_all(rows: &mut [Kept], held: usize, pivot: &Carried, fader: usize) -> bool
-    requires place { fader < faders }
-    requires held { held ≤ length rows.old }
-    ensures all { result ≡ true → cancel_all fader (numbers_of pivot.now) (kepts (take held rows.old)) ≡ Some (kepts (take held rows.new)) }
-    ensures none { result ≡ false → cancel_all fader (numbers_of pivot.now) (kepts (take held rows.old)) ≡ None }
-{
-    for i in 0..held {
-        let kept = rows[i];
-        match cancel(&kept, pivot, fader) {
-            Some(next) => rows[i] = next,
-            None => return false,
+impl Pivot {
+    // The row with the pivot's fader cancelled; none where a number is beyond G.
+    fn cancel(&self, kept: &Kept) -> Option<Kept>
+        ensures { option_map kept_of result ≡ cancel_one self.now.fader.index (numbers_of self.now.row) (kept_of kept.now) }
+    {
+        let place = self.fader.place();
+        let a = kept.row.coefficients[place];
+        if a == 0 {
+            return Some(*kept);
         }
+        let b = self.row.coefficients[place];
+        let (part, own) = parts(a, b);
+        let other = pivot_factor(a, b, part);
+        let row = combine(own, &kept.row, other, &self.row)?;
+        Some(Kept {
+            kind: kept.kind,
+            row,
+        })
     }
-    true
+
+    // The same for each of the rows, in place; where a number is beyond G, the fault names the fader.
+    fn cancel_each(&self, rows: &mut [Kept]) -> Result<(), Fault>
+        ensures { MatchResult result (λ _. cancel_all self.now.fader.index (numbers_of self.now.row) (kepts rows.old) ≡ Some (kepts rows.new)) (λ f. (cancel_all self.now.fader.index (numbers_of self.now.row) (kepts rows.old) ≡ None) × (f ≡ number_beyond self.now.fader.index)) }
+    {
+        for kept in rows.iter_mut() {
+            *kept = self
+                .cancel(kept)
+                .ok_or(Fault::new(NUMBER, self.fader.index))?;
+        }
+        Ok(())
+    }
+
+    // The same for the rows of a list.
+    pub fn cancel_all(&self, rows: &mut ShortList<Kept>) -> Result<(), Fault>
+        ensures len { length rows.new ≡ length rows.old }
+        ensures value { MatchResult result (λ _. cancel_all self.now.fader.index (numbers_of self.now.row) (kepts rows.old) ≡ Some (kepts rows.new)) (λ f. (cancel_all self.now.fader.index (numbers_of self.now.row) (kepts rows.old) ≡ None) × (f ≡ number_beyond self.now.fader.index)) }
+    {
+        let mut items = rows.items;
+        self.cancel_each(&mut items[..rows.len])?;
+        rows.items = items;
+        Ok(())
+    }
 }
 
-// Takes the row at a place out of the first rows: those behind it move up.
-pub fn remove(rows: &mut [Kept], held: usize, place: usize)
-    requires place { place < held }
-    requires held { held ≤ length rows.old }
-    ensures { take (held - 1) rows.new ≡ take place rows.old ++ drop (place + 1) (take held rows.old) }
+// The weights of a row, each times -1.
+fn negated(row: &Carried) -> [i32; ROWS]
+    ensures { result ≡ scale (negsuc 0) row.now.weights }
 {
-    for i in place..held - 1 {
-        rows[i] = rows[i + 1];
-    }
-}
-
-// Each weight times -1.
-fn negated(weights: &[i32; ROWS]) -> [i32; ROWS]
-    requires { EachWithin weights.now }
-    ensures { result ≡ scale (negsuc 0) weights.now }
-{
-    let mut values = [0; ROWS];
-    for i in 0..ROWS {
-        values[i] = -weights[i];
+    let mut values = row.weights;
+    for value in values.iter_mut() {
+        *value = -*value;
     }
     values
 }
@@ -101,7 +96,7 @@ pub fn contradiction(row: &Carried) -> Weights
     ensures { result.values ≡ contradiction (numbers_of row.now) }
 {
     let values = if row.side > 0 {
-        negated(&row.weights)
+        negated(row)
     } else {
         row.weights
     };

@@ -1,72 +1,57 @@
-// The equations of a list substituted away, in place. Assumes nothing.
-ghost use Rattle.std.specs.Prelude.{◌≡◌, ◌+◌, ◌<◌, ◌≤◌, [], length, take};
-ghost use Rattle.substitution.specs.Reduction.{is_equation, reduced};
+// The equations of a list substituted away, one row after another. Assumes nothing.
+ghost use Rattle.std.specs.Prelude.{◌≡◌, ◌<◌, [], length};
+ghost use Rattle.substitution.specs.Reduction.{reduced};
 ghost use Rattle.substitution.specs.Holding.{kepts};
 ghost use Rattle.substitution.specs.Outcomes.{ahead, ahead_after, finished, OnwardAfter, FewLeft};
 
 use crate::kept::{Kept, Pivot};
-use crate::outcome::{Outcome, Progress};
-use crate::pivoting::{cancel_all, contradiction, first_fader, remove};
-use engine::Fault;
-use engine::fault::NUMBER;
+use crate::pivoting::{contradiction, first_fader};
+use crate::reduction::Reduction;
+use crate::short_list::ShortList;
+use crate::stop::Stop;
 use rows::Kind;
 
-fn is_equation(kind: Kind) -> bool
-    ensures { result ≡ is_equation kind }
-{
-    match kind {
-        Kind::Equal => true,
-        Kind::AtMost | Kind::Below => false,
-    }
-}
-
-// Looks at one row. An equation is taken out: one without coefficients is dropped or is a contradiction, and any other is solved for its lowest fader, which is cancelled in the rows that stay.
-fn look(rows: &mut [Kept], pivots: &mut [Pivot], at: Progress) -> Result<Outcome, Fault>
-    requires place { at.place < at.held }
-    requires held { at.held ≤ length rows.old }
-    requires room { at.held + at.solved ≤ length pivots.old }
-    ensures value { ahead_after rows.new pivots.new result ≡ ahead rows.old pivots.old at }
-    ensures onward { OnwardAfter at result }
-{
-    let kept = rows[at.place];
-    if !is_equation(kept.kind) {
-        return Ok(Outcome::Left(at.passed()));
-    }
-    let Some(fader) = first_fader(&kept.row) else {
-        if kept.row.side != 0 {
-            return Ok(Outcome::Clash(contradiction(&kept.row)));
+impl Reduction {
+    // Looks at one row. An equation is taken out: one without coefficients is dropped or is a contradiction, and any other is solved for its lowest fader, which is cancelled in the rows that stay.
+    fn look(&mut self) -> Result<(), Stop>
+        requires { self.old.place < length self.old.rows }
+        ensures value { ahead_after self.new result ≡ ahead self.old }
+        ensures onward { OnwardAfter self.old self.new result }
+    {
+        let kept = self.rows.as_slice()[self.place];
+        if kept.kind != Kind::Equal {
+            self.place += 1;
+            return Ok(());
         }
-        remove(rows, at.held, at.place);
-        return Ok(Outcome::Left(at.taken_out()));
-    };
-    remove(rows, at.held, at.place);
-    if !cancel_all(rows, at.held - 1, &kept.row, fader as usize) {
-        return Err(Fault::new(NUMBER, fader));
+        self.rows.remove(self.place);
+        let Some(fader) = first_fader(&kept.row) else {
+            if kept.row.side != 0 {
+                return Err(Stop::Clash(contradiction(&kept.row)));
+            }
+            return Ok(());
+        };
+        let pivot = Pivot {
+            fader,
+            row: kept.row,
+        };
+        pivot.cancel_all(&mut self.rows)?;
+        self.pivots.push(pivot);
+        Ok(())
     }
-    pivots[at.solved] = Pivot {
-        fader,
-        row: kept.row,
-    };
-    Ok(Outcome::Left(at.made_pivot()))
 }
 
-// Substitutes the equations among the first rows away. What is left stands first, with the pivots in the order in which they were found.
-pub fn reduce(rows: &mut [Kept], held: usize, pivots: &mut [Pivot]) -> Result<Outcome, Fault>
-    requires held { held ≤ length rows.old }
-    requires room { held ≤ length pivots.old }
-    ensures value { finished rows.new pivots.new result ≡ reduced held [] (kepts (take held rows.old)) [] }
-    ensures few { FewLeft result held }
+// Substitutes the equations among the rows away. The rows that are left stand in their order, and the pivots in the order in which they were found.
+pub fn reduce(rows: ShortList<Kept>) -> Result<Reduction, Stop>
+    ensures value { finished result ≡ reduced (length rows) [] (kepts rows) [] }
+    ensures few { FewLeft result (length rows) }
 {
-    let mut at = Progress {
+    let mut reduction = Reduction {
+        rows,
+        pivots: ShortList::new(Pivot::blank()),
         place: 0,
-        held,
-        solved: 0,
     };
-    while at.place < at.held {
-        match look(rows, pivots, at)? {
-            Outcome::Left(next) => at = next,
-            Outcome::Clash(weights) => return Ok(Outcome::Clash(weights)),
-        }
+    while reduction.place < reduction.rows.len() {
+        reduction.look()?;
     }
-    Ok(Outcome::Left(at))
+    Ok(reduction)
 }

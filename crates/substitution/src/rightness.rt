@@ -2,8 +2,6 @@
 ghost use Rattle.substitution.specs.Sound.{SoundOver};
 
 // States that over any engine whose verdicts are right, so are the layer's. It computes nothing.
-pub fn verdict_is_right_over_any() -> u8
+pub fn verdict_is_right_over_any()
     ensures { SoundOver }
-{
-    0
-}
+{}

@@ -1,32 +1,23 @@
-use Rattle.std.proofs.Common.{[], map, length, Ok, subst, arith}
-use Rattle.std.proofs.lemmas.Result.{err_from_is_err_and}
-use Rattle.engine.specs.declared.answer.Answer.{Answer}
-use Rattle.engine.specs.States.{Says}
+use Rattle.std.proofs.Common.{map, length, ap, ◌∙◌, subst, rules}
+use Rattle.rows.specs.Rows.{constraints}
+use Rattle.engine.specs.Deciding.{Tells}
 use Rattle.substitution.specs.Working.{handed_down}
-use Rattle.substitution.specs.Holding.{kepts, latest_first}
-use Rattle.substitution.proofs.Returning.{handed_length, weights_back, weights_fail, fault_back}
+use Rattle.substitution.specs.Holding.{kepts}
+use Rattle.substitution.proofs.Returning.{below_told, fault_told}
 use Rattle.substitution.proofs.below.decide_left.Goals as goal
 
-pub lift-requires : goal.lift-requires
-lift-requires g c = (omega (arith, c.requires.valid.short, handed_length c.args.left.now), c.requires.few)
+pub map_err-said-requires : goal.map_err-said-requires
+map_err-said-requires g c = λ e is.
+    let told = below_told g.E.Engine.verdict g.E.Engine.cells c.args.count c.args.left.now c.as_slice.result.now (length c.args.table.now) c.decide_rows.result c.requires.valid c.requires.room (ap constraints c.as_slice.ensures ∙ c.hand_down-rows.ensures) c.decide_rows.ensures in
+    let t = subst (Tells _ _) is told in
+    (t.0, t.1)
 
-pub returns-in_ok-lift-in-Clash : goal.returns-in_ok-lift-in-Clash
-returns-in_ok-lift-in-Clash g c =
-    let left = c.args.left.now in
-    let v = g.E.Engine.verdict c.args.count (map handed_down (kepts left)) in
-    let s = subst (λ (a : Answer). Says (length left) v (Ok a)) c.in-Clash.is c.in-Ok.ensures in
-    weights_back c.args.listed (length left) (kepts left) (latest_first c.args.pivots.now []) v c.in-Clash.weights c.in_ok-lift-in-Clash.field-0 s c.in_ok-lift-in-Clash.ensures
+pub bring_back-requires-clause-verdict : goal.bring_back-requires-clause-verdict
+bring_back-requires-clause-verdict g c =
+    let told = below_told g.E.Engine.verdict g.E.Engine.cells c.args.count c.args.left.now c.as_slice.result.now (length c.args.table.now) c.decide_rows.result c.requires.valid c.requires.room (ap constraints c.as_slice.ensures ∙ c.hand_down-rows.ensures) c.decide_rows.ensures in
+    (g.E.Engine.verdict c.args.count (map handed_down (kepts c.args.left.now)), fault_told _ _ c.decide_rows.result c.map_err-said.result _ (λ e f k. search rules) c.map_err-said.ensures.cases told)
 
-pub returns-in_err-lift-in-Clash : goal.returns-in_err-lift-in-Clash
-returns-in_err-lift-in-Clash g c =
-    let left = c.args.left.now in
-    let v = g.E.Engine.verdict c.args.count (map handed_down (kepts left)) in
-    let s = subst (λ (a : Answer). Says (length left) v (Ok a)) c.in-Clash.is c.in-Ok.ensures in
-    let p = err_from_is_err_and c.from_residual-in_err-lift-in-Clash.result c.from_residual-in_err-lift-in-Clash.ensures.1 in
-    rw (p.1, p.2) (weights_fail c.args.listed (length left) (kepts left) (latest_first c.args.pivots.now []) v c.in-Clash.weights c.in_err-lift-in-Clash.field-0.0 s c.in_err-lift-in-Clash.ensures)
-
-pub returns-in-Err : goal.returns-in-Err
-returns-in-Err g c =
-    let left = c.args.left.now in
-    let v = g.E.Engine.verdict c.args.count (map handed_down (kepts left)) in
-    fault_back c.args.listed (length left) (kepts left) (latest_first c.args.pivots.now []) v c.in-Err.fault c.raise.result c.in-Err.ensures c.raise.ensures
+pub returns : goal.returns
+returns g c =
+    let told = below_told g.E.Engine.verdict g.E.Engine.cells c.args.count c.args.left.now c.as_slice.result.now (length c.args.table.now) c.decide_rows.result c.requires.valid c.requires.room (ap constraints c.as_slice.ensures ∙ c.hand_down-rows.ensures) c.decide_rows.ensures in
+    c.bring_back.ensures (g.E.Engine.verdict c.args.count (map handed_down (kepts c.args.left.now))) (fault_told _ _ c.decide_rows.result c.map_err-said.result _ (λ e f k. search rules) c.map_err-said.ensures.cases told)

@@ -1,43 +1,33 @@
-use Rattle.std.proofs.Common.{◌≡◌, [], length, take, Ok, Err, sym, refl, ap, ◌∙◌, arith}
-use Rattle.std.proofs.lemmas.List.{length-take-le}
-use Rattle.std.proofs.lemmas.Result.{err_from_is_err_and}
+use Rattle.std.proofs.Common.{[], Ok, Err, sym, refl, ap, ◌∙◌}
 use Rattle.engine.specs.declared.answer.Answer.TheVariants.{Clash}
-use Rattle.substitution.specs.declared.outcome.Outcome.{Outcome}
+use Rattle.substitution.specs.declared.stop.Stop.{Stop}
 use Rattle.substitution.specs.Reduction.{Reduced.clashing, Reduced.faulty, Reduced.left}
 use Rattle.substitution.specs.Holding.{kepts, latest_first}
 use Rattle.substitution.specs.Outcomes.{finished}
 use Rattle.substitution.proofs.Returning.{left_valid, worked_out}
 use Rattle.substitution.proofs.layer.work_out.Goals as goal
 
-pub returns-in_err-weights : goal.returns-in_err-weights
-returns-in_err-weights g c =
+pub decide_left-requires-clause-valid : goal.decide_left-requires-clause-valid
+decide_left-requires-clause-valid g c =
     let s = c.args.state.now in
-    let fault = c.in_err-weights.field-0.0 in
-    let p = err_from_is_err_and c.from_residual.result c.from_residual.ensures.1 in
-    rw (p.1, p.2) (worked_out s (kepts (take (length (take s.len s.rows)) c.fill.new.held)) (faulty fault) c.fill.ensures c.in_err-weights.ensures.value g.E.Engine.verdict (Err fault) refl)
+    let end = c.in-Ok.end in
+    rw c.as_slice.ensures (left_valid s c.standing.result (left (kepts end.rows) (latest_first end.pivots [])) c.standing.ensures c.in-Ok.ensures.value c.requires.started)
 
-pub returns-in-Clash : goal.returns-in-Clash
-returns-in-Clash g c =
+pub returns-in-Ok : goal.returns-in-Ok
+returns-in-Ok g c =
     let s = c.args.state.now in
-    let w = c.in-Clash.weights in
-    let done = ap (λ (o : Outcome). finished c.reduce.new.rows c.reduce.new.pivots (Ok o)) (sym c.in-Clash.is) ∙ c.in_ok-weights.ensures.value in
-    worked_out s (kepts (take (length (take s.len s.rows)) c.fill.new.held)) (clashing w.values) c.fill.ensures done g.E.Engine.verdict (Ok (Clash w)) refl
+    let end = c.in-Ok.end in
+    let says = rw (c.as_slice.ensures, c.as_slice-in-Ok.ensures) at c.decide_left.ensures in
+    worked_out s c.standing.result (left (kepts end.rows) (latest_first end.pivots [])) c.standing.ensures c.in-Ok.ensures.value g.E.Engine.verdict c.decide_left.result says
 
-pub decide_left-requires : goal.decide_left-requires
-decide_left-requires g c =
-    let s = c.args.state.now in
-    let end = c.in-Left.end in
-    let n : length (take s.len s.rows) ≡ s.len = length-take-le s.len s.rows (omega (arith, s.short, s.places)) in
-    let done = ap (λ (o : Outcome). finished c.reduce.new.rows c.reduce.new.pivots (Ok o)) (sym c.in-Left.is) ∙ c.in_ok-weights.ensures.value in
-    record {
-      valid = left_valid s (kepts (take (length (take s.len s.rows)) c.fill.new.held)) (left (kepts (take end.held c.reduce.new.rows)) (latest_first (take end.solved c.reduce.new.pivots) [])) c.fill.ensures done c.requires.started;
-      few = omega (arith, n, s.short);
-      room = c.requires.room;
-    }
+pub returns-in-Err-Clash : goal.returns-in-Err-Clash
+returns-in-Err-Clash g c =
+    let w = c.in-Err-Clash.weights in
+    let done = ap (λ (t : Stop). finished (Err t)) (sym c.in-Err-Clash.field-0-is) ∙ c.in-Err-Clash.ensures.value in
+    rw c.in-Err-Clash.weights-is (worked_out c.args.state.now c.standing.result (clashing w.values) c.standing.ensures done g.E.Engine.verdict (Ok (Clash w)) refl)
 
-pub returns-in-Left : goal.returns-in-Left
-returns-in-Left g c =
-    let s = c.args.state.now in
-    let end = c.in-Left.end in
-    let done = ap (λ (o : Outcome). finished c.reduce.new.rows c.reduce.new.pivots (Ok o)) (sym c.in-Left.is) ∙ c.in_ok-weights.ensures.value in
-    worked_out s (kepts (take (length (take s.len s.rows)) c.fill.new.held)) (left (kepts (take end.held c.reduce.new.rows)) (latest_first (take end.solved c.reduce.new.pivots) [])) c.fill.ensures done g.E.Engine.verdict c.decide_left.result c.decide_left.ensures
+pub returns-in-Err-Beyond : goal.returns-in-Err-Beyond
+returns-in-Err-Beyond g c =
+    let f = c.in-Err-Beyond.fault in
+    let done = ap (λ (t : Stop). finished (Err t)) (sym c.in-Err-Beyond.field-0-is) ∙ c.in-Err-Beyond.ensures.value in
+    rw c.in-Err-Beyond.fault-is (worked_out c.args.state.now c.standing.result (faulty f) c.standing.ensures done g.E.Engine.verdict (Err f) refl)

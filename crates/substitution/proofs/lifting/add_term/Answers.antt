@@ -13,20 +13,20 @@ narrow_term_of w u t a b p o f e n is =
 
 pub overflow_add-sum : goal.overflow_add-sum
 overflow_add-sum c =
-    let n = narrow_term_of c.args.weight c.args.carried c.in-Some.term c.ranges.weight c.ranges.carried c.product.result c.narrow.result (search rules) c.product.ensures c.narrow.ensures c.in-Some.is in
+    let n = narrow_term_of c.args.weight c.args.carried c.in_ok-term.term c.ranges.weight c.ranges.carried c.product.result c.narrow.result (search rules) c.product.ensures c.narrow.ensures c.in_ok-term.was in
     let s : SFits w32 c.args.sum = c.ranges.sum in
-    let t : SFits w32 c.in-Some.term = term_fits (c.args.weight *ℤ c.args.carried) c.in-Some.term n in
+    let t : SFits w32 c.in_ok-term.term = term_fits (c.args.weight *ℤ c.args.carried) c.in_ok-term.term n in
     let s' : SFits w64 c.args.sum = omega (arith, ints, s) in
-    let t' : SFits w64 c.in-Some.term = omega (arith, ints, t) in
+    let t' : SFits w64 c.in_ok-term.term = omega (arith, ints, t) in
     simp to_z-of_z (omega (arith, ints, s, t))
 
 pub returns : goal.returns
 returns c =
-    let n = narrow_term_of c.args.weight c.args.carried c.in-Some.term c.ranges.weight c.ranges.carried c.product.result c.narrow.result (search rules) c.product.ensures c.narrow.ensures c.in-Some.is in
+    let n = narrow_term_of c.args.weight c.args.carried c.in_ok-term.term c.ranges.weight c.ranges.carried c.product.result c.narrow.result (search rules) c.product.ensures c.narrow.ensures c.in_ok-term.was in
     let s : SFits w32 c.args.sum = c.ranges.sum in
-    let t : SFits w32 c.in-Some.term = term_fits (c.args.weight *ℤ c.args.carried) c.in-Some.term n in
+    let t : SFits w32 c.in_ok-term.term = term_fits (c.args.weight *ℤ c.args.carried) c.in_ok-term.term n in
     let s' : SFits w64 c.args.sum = omega (arith, ints, s) in
-    let t' : SFits w64 c.in-Some.term = omega (arith, ints, t) in
-    let f : SFits w64 (c.args.sum +ℤ c.in-Some.term) = omega (arith, ints, s, t) in
+    let t' : SFits w64 c.in_ok-term.term = omega (arith, ints, t) in
+    let f : SFits w64 (c.args.sum +ℤ c.in_ok-term.term) = omega (arith, ints, s, t) in
     let e = simp to_z-of_z at c.narrow-2.ensures in
-    e ∙ term_some c.args.sum c.args.weight c.args.carried c.in-Some.term n
+    e ∙ term_some c.args.sum c.args.weight c.args.carried c.in_ok-term.term n

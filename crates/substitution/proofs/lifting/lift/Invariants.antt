@@ -1,8 +1,8 @@
 use Rattle.std.proofs.Common.{◌≡◌, length, take}
-use Rattle.rows.specs.Limits.{most_rows, EachWithin}
+use Rattle.rows.specs.Limits.{EachWithin}
 use Rattle.substitution.specs.Holding.{kepts}
 use Rattle.substitution.proofs.Lifts.{Lifted}
 use Rattle.substitution.proofs.lifting.lift.Given as goal
 
-abbrev pub invariant-loop-j : goal.invariant-loop-j
-invariant-loop-j l = (length l.values ≡ most_rows) × EachWithin l.values × Lifted l.listed (take (length l.rows) l.below.values) (kepts l.rows) l.j l.values
+abbrev pub invariant-loop-place : goal.invariant-loop-place
+invariant-loop-place l = (length l.value-items ≡ l.listed) × EachWithin l.value-items × Lifted l.listed (take (length l.rows) l.below.values) (kepts l.rows) l.place l.value-items

@@ -7,7 +7,6 @@ use Rattle.rows.specs.declared.carried.Carried.{Carried}
 use Rattle.rows.specs.Carrying.{numbers_of}
 use Rattle.substitution.specs.Reduction.{contradiction}
 use Rattle.substitution.specs.Clashing.{opposite_within}
-use Rattle.substitution.proofs.Places.{bits_are}
 use Rattle.substitution.proofs.pivoting.contradiction.Goals as goal
 use Rattle.substitution.proofs.pivoting.contradiction.Goals.{then-row-gt0, else-row-gt0}
 
@@ -20,13 +19,4 @@ invariant_of-result c =
     elim c.if-row-gt0.branch [
       | then-row-gt0 w ↦ record { places = ap length (w.values-is ∙ w.negated-values.ensures) ∙ length_scale (negsuc 0) r.weights ∙ r.loads; within = subst EachWithin (sym (w.values-is ∙ w.negated-values.ensures)) (opposite_within r.weights r.light) }
       | else-row-gt0 w ↦ record { places = ap length w.values-is ∙ r.loads; within = subst EachWithin (sym w.values-is) r.light }
-    ]
-
-pub returns : goal.returns
-returns c =
-    let r = c.args.row.now in
-    let b = bits_are r.side r.bounded in
-    elim c.if-row-gt0.branch [
-      | then-row-gt0 w ↦ w.values-is ∙ w.negated-values.ensures ∙ sym (by_side r _ (sym (ap (lt_z (pos 0)) b) ∙ w.if-row-gt0.true))
-      | else-row-gt0 w ↦ w.values-is ∙ sym (by_side r _ (sym (ap (lt_z (pos 0)) b) ∙ w.if-row-gt0.false))
     ]

@@ -1,28 +1,39 @@
-use Rattle.std.proofs.Common.{true, false, get_or, pos, nat_abs, sym, ◌∙◌, arith}
-use Rattle.std.proofs.lemmas.List.{at_drop_all}
-use Rattle.std.proofs.lemmas.Bool.{ltb-true}
+use Rattle.std.proofs.Common.{◌≡◌, ◌==◌, ℕ, suc, ◌+◌, Bool, true, false, cond, ltb, List, [], ◌∷◌, ℤ, nat_abs, not, Some, sym, ap, ◌∙◌, refl, w32, of_z, rules, tests, eqb-true}
+use Rattle.std.specs.Option.{option_map}
+use Rattle.std.specs.List.{position_from}
+use Rattle.std.proofs.lemmas.Iterator.{YieldsList-from_slice}
+use Rattle.std.proofs.lemmas.Iterator.Search.{position_from_yields_List}
+use Rattle.std.proofs.lemmas.Iterator.Adapters.{position_from-zero}
+use Rattle.std.proofs.lemmas.Bool.{eqb-false}
+use Rattle.rows.specs.Limits.{Within, EachWithin}
 use Rattle.substitution.specs.Reduction.{first_fader}
-use Rattle.substitution.proofs.Places.{none_by_bits, some_by_bits, fader_at}
+use Rattle.substitution.specs.Holding.{index_of}
+use Rattle.substitution.proofs.Places.{none_by_bits, some_by_bits}
 use Rattle.substitution.proofs.pivoting.first_fader.Goals as goal
 
-pub returns-then-row-k-ne0 : goal.returns-then-row-k-ne0
-returns-then-row-k-ne0 c =
-    let r = c.args.row.now in
-    let k = c.loop-k.k in
-    let e = some_by_bits (get_or r.coefficients k (pos 0)) c.if-row-k-ne0.true in
-    record {
-      value = sym (fader_at r.coefficients k true (omega (arith, r.places)) e) ∙ c.loop-k.invariant;
-      solvable = (c.loop-k-test.true, ltb-true 0 (nat_abs (get_or r.coefficients k (pos 0))) e);
-    }
+-- what the closure tests
+abbrev nonzero : ℤ → Bool
+nonzero a = not (of_z w32 a == 0)
 
-pub loop-k-preserved : goal.loop-k-preserved
-loop-k-preserved c =
-    let r = c.args.row.now in
-    let k = c.loop-k.k in
-    sym (fader_at r.coefficients k false (omega (arith, r.places)) (none_by_bits (get_or r.coefficients k (pos 0)) (r.within k) c.if-row-k-ne0.false)) ∙ c.loop-k.invariant
+nonzero_is : (a : ℤ) → Within a → nonzero a ≡ ltb 0 (nat_abs a)
+nonzero_is a w = by (of_z w32 a == 0) refl
+  where
+    by : (b : Bool) → (of_z w32 a == 0) ≡ b → not b ≡ ltb 0 (nat_abs a)
+    by true e = sym (none_by_bits a w (eqb-true (of_z w32 a) 0 e))
+    by false e = sym (some_by_bits a (eqb-false (of_z w32 a) 0 e))
 
-pub returns : goal.returns
-returns c =
-    let r = c.args.row.now in
-    let k = c.loop-k.k in
-    record { value = sym (at_drop_all (first_fader k) r.coefficients k (omega (arith, r.places, c.loop-k-test.false))) ∙ c.loop-k.invariant; solvable = tt }
+position_is : (xs : List ℤ) (k : ℕ) → EachWithin xs → position_from nonzero k xs ≡ first_fader k xs
+position_is [] k w = refl
+position_is (a ∷ more) k w = λ j. cond (nonzero_is a (w 0) j) (Some k) (position_is more (k + 1) (λ i. w (suc i)) j)
+
+pub returns-in_err-place-clause-value : goal.returns-in_err-place-clause-value
+returns-in_err-place-clause-value c =
+    let xs = c.args.row.now.coefficients in
+    let p = position_from_yields_List nonzero _ _ c.position.result c.position.ensures.ran (YieldsList-from_slice xs cc) (λ x b q k. search (rules, tests)) in
+    ap (option_map index_of) c.from_residual.ensures ∙ sym c.in_err-place.was ∙ p ∙ position_from-zero nonzero xs ∙ position_is xs 0 c.args.row.now.within
+
+pub returns-clause-value : goal.returns-clause-value
+returns-clause-value c =
+    let xs = c.args.row.now.coefficients in
+    let p = position_from_yields_List nonzero _ _ c.position.result c.position.ensures.ran (YieldsList-from_slice xs cc) (λ x b q k. search (rules, tests)) in
+    sym c.in_ok-place.was ∙ p ∙ position_from-zero nonzero xs ∙ position_is xs 0 c.args.row.now.within

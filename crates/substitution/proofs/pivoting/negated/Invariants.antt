@@ -1,7 +1,6 @@
-use Rattle.std.proofs.Common.{◌≡◌, length, take, negsuc}
+use Rattle.std.proofs.Common.{◌≡◌, take, drop, negsuc}
 use Rattle.integers.specs.Vectors.{scale}
-use Rattle.rows.specs.Limits.{most_rows}
 use Rattle.substitution.proofs.pivoting.negated.Given as goal
 
-abbrev pub invariant-loop-i : goal.invariant-loop-i
-invariant-loop-i l = (length l.values ≡ most_rows) × (take l.i l.values ≡ take l.i (scale (negsuc 0) l.weights))
+abbrev pub invariant-loop-value : goal.invariant-loop-value
+invariant-loop-value l = (take l.value-index l.value-items ≡ take l.value-index (scale (negsuc 0) l.row.weights)) × (drop l.value-index l.value-items ≡ drop l.value-index l.row.weights)

@@ -1,14 +1,13 @@
-use Rattle.std.proofs.Common.{◌≡◌, ◌+◌, ◌-◌, ◌≤◌, [], take}
+use Rattle.std.proofs.Common.{◌≡◌, ◌+◌, ◌-◌, ◌≤◌, [], length}
 use Rattle.substitution.specs.Reduction.{reduced}
 use Rattle.substitution.specs.Holding.{kepts}
 use Rattle.substitution.specs.Outcomes.{ahead}
 use Rattle.substitution.proofs.reducing.reduce.Given as goal
 
-abbrev pub invariant-loop-at : goal.invariant-loop-at
-invariant-loop-at l =
-    (ahead l.rows l.pivots l.at ≡ reduced l.held [] (kepts (take l.held l.initial.rows)) [])
-    × (l.at.place ≤ l.at.held)
-    × (l.at.held + l.at.solved ≤ l.held)
+abbrev pub invariant-loop-reduction : goal.invariant-loop-reduction
+invariant-loop-reduction l =
+    (ahead l.reduction ≡ reduced (length l.fn.rows) [] (kepts l.fn.rows) [])
+    × (length l.reduction.rows + length l.reduction.pivots ≤ length l.fn.rows)
 
-abbrev pub decreases-loop-at : goal.decreases-loop-at
-decreases-loop-at l = l.at.held - l.at.place
+abbrev pub decreases-loop-reduction : goal.decreases-loop-reduction
+decreases-loop-reduction l = length l.reduction.rows - l.reduction.place
