@@ -1,7 +1,6 @@
-// The engine. Assumes nothing.
-ghost use Rattle.std.specs.Prelude.{◌≡◌, ◌≤◌, List, [], length};
-ghost use Rattle.engine.specs.States.{state_view, state_rows, Says};
-ghost use Rattle.engine.specs.Interface.{none};
+// The working of the engine, and the engine. Assumes nothing.
+ghost use Rattle.std.specs.Prelude.{◌≤◌, List, length};
+ghost use Rattle.engine.specs.States.{Says};
 ghost use Rattle.rows.specs.Rows.{Constraint};
 ghost use Rattle.elimination.specs.Lines.{lines};
 ghost use Rattle.elimination.specs.Table.{room};
@@ -14,25 +13,15 @@ use crate::filling::first_equation;
 use crate::lent::Table;
 use crate::levels::all_set;
 use crate::table::ROOM;
-use engine::fault::FORM;
-use engine::{Answer, Engine, Fault, Refusal, State};
-use rows::{Row, Weights};
+use engine::{Answer, Cause, Fault, State, Working, WorkingEngine};
+use rows::Weights;
 
+// Faders eliminated one by one, and set one by one on the way back.
 #[derive(Clone, Copy)]
-pub struct Elimination {
-    pub state: State,
-}
+pub struct FourierMotzkin;
 
-impl Elimination {
-    // Not started.
-    pub fn new() -> Elimination
-        ensures { state_view result.state ≡ record { count = 0; rows = []; answer = none } }
-    {
-        Elimination {
-            state: State::new(),
-        }
-    }
-}
+// The engine that keeps its rows and works so.
+pub type Elimination = WorkingEngine<FourierMotzkin>;
 
 // What an eliminated table says: a clash if it has a false row, and otherwise levels.
 fn conclude(table: &[Cell], count: u8) -> Result<Answer, Fault>
@@ -47,24 +36,8 @@ fn conclude(table: &[Cell], count: u8) -> Result<Answer, Fault>
     }
 }
 
-// What the working says of the rows, worked out in the table.
-fn work_out(state: &State, table: &mut [Cell]) -> Result<Answer, Fault>
-    requires { room ≤ length table.old }
-    ensures { Says state.now.len (elimination_verdict state.now.count (state_rows state.now)) result }
-{
-    let rows = &state.rows[..state.len as usize];
-    if let Some(i) = first_equation(rows) {
-        return Err(Fault::new(FORM, i as u8));
-    }
-    let mut filled = Table::filled(table, rows);
-    filled.eliminate_all(state.count)?;
-    conclude(filled.rows(), state.count)
-}
-
-impl Engine for Elimination {
+impl Working for FourierMotzkin {
     type Cell = Cell;
-
-    ghost view = { λ e. state_view e.state };
 
     ghost verdict = { elimination_verdict };
 
@@ -76,29 +49,13 @@ impl Engine for Elimination {
         ROOM
     }
 
-    fn start(&mut self, count: u8) -> Result<(), Refusal> {
-        self.state.start(count)
-    }
-
-    fn take(&mut self, row: &Row) -> Result<(), Refusal> {
-        self.state.take(row)
-    }
-
-    fn decide(&mut self, table: &mut [Cell]) -> Result<(), Refusal> {
-        self.state.ready(table.len(), ROOM)?;
-        let found = work_out(&self.state, table);
-        self.state.settle(found)
-    }
-
-    fn numerator(&self, fader: u8) -> Result<i32, Refusal> {
-        self.state.numerator(fader)
-    }
-
-    fn denominator(&self) -> Result<u32, Refusal> {
-        self.state.denominator()
-    }
-
-    fn weight(&self, row: u8) -> Result<i32, Refusal> {
-        self.state.weight(row)
+    fn work_out(&mut self, state: &State, table: &mut [Cell]) -> Result<Answer, Fault> {
+        let rows = state.rows.as_slice();
+        if let Some(i) = first_equation(rows) {
+            return Err(Fault::new(Cause::FormNotTaken, i as u8));
+        }
+        let mut filled = Table::filled(table, rows);
+        filled.eliminate_all(state.count)?;
+        conclude(filled.rows(), state.count)
     }
 }

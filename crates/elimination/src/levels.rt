@@ -15,8 +15,7 @@ use crate::limit::Beyond;
 use crate::setting::Setting;
 use crate::side::{Above, Below};
 use crate::values::value;
-use engine::Fault;
-use engine::fault::NUMBER;
+use engine::{Cause, Fault};
 use rows::{FADERS, Fader, Preset};
 
 impl Setting<'_> {
@@ -52,7 +51,9 @@ pub fn all_set(table: &[Cell], count: u8) -> Result<Preset, Fault>
             fader: Fader { index },
             levels: &levels,
         };
-        levels = setting.set_fader().map_err(|_| Fault::new(NUMBER, index))?;
+        levels = setting
+            .set_fader()
+            .map_err(|_| Fault::new(Cause::NumberBeyond, index))?;
     }
     Ok(levels)
 }

@@ -24,5 +24,5 @@ mod tighter;
 mod values;
 
 pub use cell::Cell;
-pub use eliminating::Elimination;
+pub use eliminating::{Elimination, FourierMotzkin};
 pub use table::ROOM;

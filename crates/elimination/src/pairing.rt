@@ -10,8 +10,7 @@ use crate::cell::Cell;
 use crate::lent::Table;
 use crate::side::{Above, Below};
 use crate::table::{ROOM, sum_of};
-use engine::Fault;
-use engine::fault::{NUMBER, TABLE};
+use engine::{Cause, Fault};
 use rows::Fader;
 
 impl Table<'_> {
@@ -27,9 +26,12 @@ impl Table<'_> {
         }
         let end = self.held;
         if end >= ROOM {
-            return Err(Fault::new(TABLE, fader.index));
+            return Err(Fault::new(Cause::TableFull, fader.index));
         }
-        self.cells[end] = sum_of(upper, &lower, fader).ok_or(Fault::new(NUMBER, fader.index))?;
+        self.cells[end] = sum_of(upper, &lower, fader).ok_or(Fault::new(
+            Cause::NumberBeyond,
+            fader.index,
+        ))?;
         self.held = end + 1;
         Ok(())
     }

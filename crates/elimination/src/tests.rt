@@ -1,9 +1,8 @@
 // Plans of one and two faders, and one that fills the table.
 use crate::cell::Cell;
-use crate::eliminating::Elimination;
+use crate::eliminating::{Elimination, FourierMotzkin};
 use crate::table::ROOM;
-use engine::fault::{FORM, TABLE};
-use engine::{Engine, Fault, Refusal};
+use engine::{Cause, Engine, Fault, Refusal};
 use rows::{Kind, Row};
 use std::process::Abort;
 use std::test::Fail;
@@ -52,7 +51,7 @@ fn check_preset(
 
 #[test]
 fn one_fader(rt: HostRuntime) -> Result<(), Fail> {
-    let mut engine = Elimination::new();
+    let mut engine = Elimination::new(FourierMotzkin);
     let above = row(Kind::AtMost, -1, 0, 0)?;
     assert_eq!(rt;
         decide(&mut engine, 1, &[row(Kind::Below, 1, 0, 0)?, above])?,
@@ -76,7 +75,10 @@ fn one_fader(rt: HostRuntime) -> Result<(), Fail> {
     );
     check_preset(&rt, &engine, 3, 0, 4)?;
     let third = [above, row(Kind::Equal, 3, 0, 100)?];
-    assert_eq!(rt; decide(&mut engine, 1, &third)?, Some(Fault::new(FORM, 1)));
+    assert_eq!(rt;
+        decide(&mut engine, 1, &third)?,
+        Some(Fault::new(Cause::FormNotTaken, 1))
+    );
     Ok(())
 }
 
@@ -88,7 +90,7 @@ fn two_faders(rt: HostRuntime) -> Result<(), Fail> {
         row(Kind::AtMost, 0, -1, -40)?,
         row(Kind::AtMost, 1, 0, 40)?,
     ];
-    let mut engine = Elimination::new();
+    let mut engine = Elimination::new(FourierMotzkin);
     assert_eq!(rt; decide(&mut engine, 2, &rows[0..3])?, None);
     check_preset(&rt, &engine, 150, 115, 2)?;
     assert_eq!(rt; decide(&mut engine, 2, &rows)?, None);
@@ -105,8 +107,11 @@ fn full_table(rt: HostRuntime) -> Result<(), Fail> {
     let b = row(Kind::AtMost, 1, -2, 0)?;
     let c = row(Kind::AtMost, -1, 1, 0)?;
     let rows = [a, a, a, a, b, b, b, b, c, c, c, c, c, c, c, c];
-    let mut engine = Elimination::new();
-    assert_eq!(rt; decide(&mut engine, 2, &rows)?, Some(Fault::new(TABLE, 1)));
+    let mut engine = Elimination::new(FourierMotzkin);
+    assert_eq!(rt;
+        decide(&mut engine, 2, &rows)?,
+        Some(Fault::new(Cause::TableFull, 1))
+    );
     assert!(rt; engine.denominator().is_err());
     let mut table = [Cell::blank(); ROOM];
     assert!(rt; matches!(&engine.decide(&mut table[1..]), Err(Refusal::ShortTable)));

@@ -1,8 +1,7 @@
 // The whole box over the engine as sold: each refusal by its number and what it leaves, the ends of the ranges, and worked examples.
 use crate::playing::play;
 use console::{Command, Reply, Sheet, ask, blame, perform};
-use engine::fault::TABLE;
-use engine::{Engine, Fault, Refusal};
+use engine::{Cause, Engine, Fault, Refusal};
 use plans::Plan;
 use rows::{Kind, ROWS, Row};
 use sold_engine::{new_engine, new_table};
@@ -231,7 +230,7 @@ fn crowded() -> Result<Plan, Fail> {
 fn table_full() -> Refusal {
     Refusal::TooLarge(Fault {
         layer: 1,
-        cause: TABLE,
+        cause: Cause::TableFull,
         index: 1,
     })
 }

@@ -1,7 +1,6 @@
 // Plans with equations and without, decided by the engine as sold.
 use elimination::{Cell, Elimination, ROOM};
-use engine::fault::{NUMBER, TABLE, WEIGHT};
-use engine::{Engine, Fault, Refusal};
+use engine::{Cause, Engine, Fault, Refusal};
 use rows::{Kind, Row};
 use std::process::Abort;
 use std::test::Fail;
@@ -185,7 +184,7 @@ fn faults_of_the_layer(rt: HostRuntime) -> Result<(), Fail> {
         row(Kind::AtMost, 30_001, 40_000, 0, 0)?,
         row(Kind::Equal, 40_000, 1, 0, 0)?,
     ];
-    assert_eq!(rt; decide(&mut engine, 2, &wide)?, Some(Fault::new(NUMBER, 0)));
+    assert_eq!(rt; decide(&mut engine, 2, &wide)?, Some(Fault::new(Cause::NumberBeyond, 0)));
     assert!(rt; engine.denominator().is_err());
     let heavy = [
         row(Kind::Equal, 32_768, 0, 0, 0)?,
@@ -194,14 +193,14 @@ fn faults_of_the_layer(rt: HostRuntime) -> Result<(), Fail> {
     ];
     assert_eq!(rt;
         decide(&mut engine, 2, &heavy)?,
-        Some(Fault::new(WEIGHT, 1))
+        Some(Fault::new(Cause::WeightBeyond, 1))
     );
     let fine = [
         row(Kind::Equal, 100_000, 1, 0, 1)?,
         row(Kind::Equal, 0, 100_000, 1, 1)?,
         row(Kind::AtMost, 0, 0, 1, 0)?,
     ];
-    assert_eq!(rt; decide(&mut engine, 3, &fine)?, Some(Fault::new(NUMBER, 0)));
+    assert_eq!(rt; decide(&mut engine, 3, &fine)?, Some(Fault::new(Cause::NumberBeyond, 0)));
     Ok(())
 }
 
@@ -216,7 +215,7 @@ fn faults_from_below(rt: HostRuntime) -> Result<(), Fail> {
         decide(&mut engine, 2, &rows)?,
         Some(Fault {
             layer: 1,
-            ..Fault::new(TABLE, 1)
+            ..Fault::new(Cause::TableFull, 1)
         })
     );
     assert!(rt; engine.denominator().is_err());

@@ -9,6 +9,7 @@ use Rattle.std.specs.Result.{MatchResult, IsErrAnd}
 use Rattle.std.proofs.lemmas.Result.{err_from_is_err_and}
 use Rattle.rows.specs.declared.row.Row.{Row}
 use Rattle.engine.specs.declared.state.State.{State}
+use Rattle.rows.specs.Lists.{items}
 use Rattle.rows.specs.Rows.{Constraint, constraint, constraints}
 use Rattle.engine.specs.Verdicts.{Verdict, Valid}
 use Rattle.engine.specs.States.{state_rows, Says}
@@ -60,14 +61,14 @@ module _ (s : State) (held : List Held) (r : Reduced) (stands : kepts held ≡ k
   -- the rows that it left are such as an engine takes
   pub left_valid : 0 < s.count → HandsDown s.count r
   left_valid started =
-      let n : length (take s.len s.rows) ≡ s.len = length-take-le s.len s.rows (omega (arith, s.short, s.places)) in
-      subst (HandsDown s.count) (sym came_to) (hands_down s.count (state_rows s) (used_valid s.count (take s.len s.rows) started s.few (omega (arith, n, s.short)) s.used))
+      let n : length (items s.rows) ≡ s.rows.len = length-take-le s.rows.len s.rows.rows (omega (arith, s.rows.short, s.rows.places)) in
+      subst (HandsDown s.count) (sym came_to) (hands_down s.count (state_rows s) (used_valid s.count (items s.rows) started s.few (omega (arith, n, s.rows.short)) s.used))
 
   -- what it says is the verdict
-  pub worked_out : (below : ℕ → List Constraint → Verdict) (found : Result Kept Fault) → Says (length (take s.len s.rows)) (decided below s.count (length (take s.len s.rows)) r) found
-      → Says s.len (substitution_verdict below s.count (state_rows s)) found
+  pub worked_out : (below : ℕ → List Constraint → Verdict) (found : Result Kept Fault) → Says (length (items s.rows)) (decided below s.count (length (items s.rows)) r) found
+      → Says s.rows.len (substitution_verdict below s.count (state_rows s)) found
   worked_out below found says =
-      let n : length (take s.len s.rows) ≡ length (state_rows s) = sym (length-map (take s.len s.rows) constraint) in
+      let n : length (items s.rows) ≡ length (state_rows s) = sym (length-map (items s.rows) constraint) in
       let whole = subst (λ (m : ℕ). Says m (decided below s.count m r) found) n says in
       subst (λ (m : ℕ). Says m (substitution_verdict below s.count (state_rows s)) found) (length_state_rows s)
       (subst (λ (x : Reduced). Says (length (state_rows s)) (decided below s.count (length (state_rows s)) x) found) came_to whole)

@@ -78,7 +78,6 @@ fn bring_back(
     match said.map_err(raise)? {
         Answer::Preset(levels) => Ok(Answer::Preset(complete_all(pivots, &levels)?)),
         Answer::Clash(weights) => Ok(Answer::Clash(lift(&weights, left, listed)?)),
-        Answer::Nothing => unreachable(),
     }
 }
 

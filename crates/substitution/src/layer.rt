@@ -1,4 +1,4 @@
-// The layer as an engine over any engine. Assumes nothing.
+// The layer as an engine over any engine, by its working. Assumes nothing.
 ghost use Rattle.std.specs.Prelude.{◌≡◌, ◌<◌, ◌≤◌, [], length};
 ghost use Rattle.engine.specs.Interface.{none};
 ghost use Rattle.engine.specs.States.{state_view, state_rows, Says};
@@ -9,54 +9,19 @@ use crate::below::decide_left;
 use crate::filling::standing;
 use crate::reducing::reduce;
 use crate::stop::Stop;
-use engine::{Answer, Engine, Fault, Refusal, State};
-use rows::Row;
+use engine::{Answer, Engine, Fault, State, Working, WorkingEngine};
 
-// Its own state, and the engine that decides the rows without equations.
+// Equations substituted away, and the rest decided by the engine below.
 #[derive(Drop)]
-pub struct Substitution<E> {
-    pub state: State,
+pub struct Substituting<E> {
     pub below: E,
 }
 
-impl<E> Substitution<E> {
-    // Not started.
-    pub fn new(below: E) -> Substitution<E>
-        ensures state { state_view result.state ≡ record { count = 0; rows = []; answer = none } }
-        ensures below { result.below ≡ below }
-    {
-        Substitution {
-            state: State::new(),
-            below,
-        }
-    }
-}
+// The engine that keeps its rows and works so.
+pub type Substitution<E> = WorkingEngine<Substituting<E>>;
 
-// What the working says of the rows, with the engine below deciding in the table what is left of them.
-fn work_out<E: Engine>(state: &State, below: &mut E, table: &mut [E::Cell]) -> Result<Answer, Fault>
-    requires started { 0 < state.now.count }
-    requires room { E.Engine.cells ≤ length table.old }
-    ensures { Says state.now.len (substitution_verdict E.Engine.verdict state.now.count (state_rows state.now)) result }
-{
-    let rows = &state.rows[..state.len as usize];
-    match reduce(standing(rows)) {
-        Ok(end) => decide_left(
-            below,
-            state.count,
-            end.rows.as_slice(),
-            end.pivots.as_slice(),
-            rows.len(),
-            table,
-        ),
-        Err(Stop::Clash(weights)) => Ok(Answer::Clash(weights)),
-        Err(Stop::Beyond(fault)) => Err(fault),
-    }
-}
-
-impl<E: Engine> Engine for Substitution<E> {
+impl<E: Engine> Working for Substituting<E> {
     type Cell = E::Cell;
-
-    ghost view = { λ e. state_view e.state };
 
     ghost verdict = { substitution_verdict E.Engine.verdict };
 
@@ -68,29 +33,19 @@ impl<E: Engine> Engine for Substitution<E> {
         E::table_size()
     }
 
-    fn start(&mut self, count: u8) -> Result<(), Refusal> {
-        self.state.start(count)
-    }
-
-    fn take(&mut self, row: &Row) -> Result<(), Refusal> {
-        self.state.take(row)
-    }
-
-    fn decide(&mut self, table: &mut [E::Cell]) -> Result<(), Refusal> {
-        self.state.ready(table.len(), E::table_size())?;
-        let found = work_out(&self.state, &mut self.below, table);
-        self.state.settle(found)
-    }
-
-    fn numerator(&self, fader: u8) -> Result<i32, Refusal> {
-        self.state.numerator(fader)
-    }
-
-    fn denominator(&self) -> Result<u32, Refusal> {
-        self.state.denominator()
-    }
-
-    fn weight(&self, row: u8) -> Result<i32, Refusal> {
-        self.state.weight(row)
+    fn work_out(&mut self, state: &State, table: &mut [E::Cell]) -> Result<Answer, Fault> {
+        let rows = state.rows.as_slice();
+        match reduce(standing(rows)) {
+            Ok(end) => decide_left(
+                &mut self.below,
+                state.count,
+                end.rows.as_slice(),
+                end.pivots.as_slice(),
+                rows.len(),
+                table,
+            ),
+            Err(Stop::Clash(weights)) => Ok(Answer::Clash(weights)),
+            Err(Stop::Beyond(fault)) => Err(fault),
+        }
     }
 }

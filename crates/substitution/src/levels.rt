@@ -6,8 +6,7 @@ ghost use Rattle.substitution.specs.Lifting.{completed, all_completed};
 ghost use Rattle.substitution.specs.Holding.{pivot_of, latest_first, level_verdict};
 
 use crate::kept::Pivot;
-use engine::Fault;
-use engine::fault::NUMBER;
+use engine::{Cause, Fault};
 use rows::{Fader, Preset};
 
 // The levels with one fader at 0.
@@ -53,7 +52,7 @@ pub fn complete_all(pivots: &[Pivot], below: &Preset) -> Result<Preset, Fault>
     for pivot in pivots.iter().rev() {
         levels = pivot
             .complete(&levels)
-            .ok_or(Fault::new(NUMBER, pivot.fader.index))?;
+            .ok_or(Fault::new(Cause::NumberBeyond, pivot.fader.index))?;
     }
     Ok(levels)
 }

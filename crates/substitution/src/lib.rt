@@ -14,4 +14,4 @@ pub mod rightness;
 mod short_list;
 mod stop;
 
-pub use layer::Substitution;
+pub use layer::{Substituting, Substitution};

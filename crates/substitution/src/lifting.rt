@@ -5,8 +5,7 @@ ghost use Rattle.substitution.specs.Lifting.{add_terms, carried_weights, lifted_
 ghost use Rattle.substitution.specs.Holding.{kepts};
 
 use crate::kept::Kept;
-use engine::Fault;
-use engine::fault::WEIGHT;
+use engine::{Cause, Fault};
 use integers::product;
 use rows::{ROWS, Weights, narrow};
 
@@ -37,7 +36,7 @@ pub fn lift(below: &Weights, rows: &[Kept], listed: usize) -> Result<Weights, Fa
 {
     let mut values = [0; ROWS];
     for (place, value) in values[..listed].iter_mut().enumerate() {
-        *value = lift_one(below, rows, place).ok_or(Fault::new(WEIGHT, place as u8))?;
+        *value = lift_one(below, rows, place).ok_or(Fault::new(Cause::WeightBeyond, place as u8))?;
     }
     Ok(Weights { values })
 }

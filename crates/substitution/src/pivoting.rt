@@ -10,8 +10,7 @@ ghost use Rattle.substitution.specs.Holding.{kept_of, kepts, index_of};
 
 use crate::kept::{Kept, Pivot};
 use crate::short_list::ShortList;
-use engine::Fault;
-use engine::fault::NUMBER;
+use engine::{Cause, Fault};
 use rows::{Carried, Factor, Fader, ROWS, Weights, combine, parts};
 
 // The lowest fader with a coefficient other than 0.
@@ -63,7 +62,7 @@ impl Pivot {
         for kept in rows.iter_mut() {
             *kept = self
                 .cancel(kept)
-                .ok_or(Fault::new(NUMBER, self.fader.index))?;
+                .ok_or(Fault::new(Cause::NumberBeyond, self.fader.index))?;
         }
         Ok(())
     }
