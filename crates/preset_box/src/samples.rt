@@ -2,8 +2,6 @@
 ghost use Rattle.preset_box.specs.SampleRuns.{SamplesReplied};
 
 // States the replies to each sample run. It computes nothing.
-pub fn sample_runs_are_replied() -> u8
+pub fn sample_runs_are_replied()
     ensures { SamplesReplied }
-{
-    0
-}
+{}

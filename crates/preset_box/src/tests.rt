@@ -17,23 +17,6 @@ fn rule(kind: u8, a: i16, b: i16, c: i16, side: i32) -> Command {
     }
 }
 
-fn same(a: &Plan, b: &Plan) -> bool {
-    if a.count != b.count || a.len != b.len {
-        return false;
-    }
-    for i in 0..ROWS {
-        if a.rules[i].sounds != b.rules[i].sounds || a.rules[i].row.kind != b.rules[i].row.kind {
-            return false;
-        }
-        if a.rules[i].row.coefficients != b.rules[i].row.coefficients
-            || a.rules[i].row.side != b.rules[i].row.side
-        {
-            return false;
-        }
-    }
-    true
-}
-
 fn reply(plan: &mut Plan, command: Command) -> Reply {
     let mut engine = new_engine();
     let mut table = new_table();
@@ -42,8 +25,8 @@ fn reply(plan: &mut Plan, command: Command) -> Reply {
 
 // Every command is carried out, and has nothing to tell.
 fn edit(plan: &mut Plan, commands: &[Command]) -> Result<(), Fail> {
-    for i in 0..commands.len() {
-        let Reply::Done = reply(plan, commands[i]) else {
+    for command in commands {
+        let Reply::Done = reply(plan, *command) else {
             return Err(Fail::new("an edit is not carried out"));
         };
     }
@@ -64,7 +47,7 @@ fn refused(
     };
     assert_eq!(rt; told, refusal);
     assert_eq!(rt; told.number(), number);
-    assert!(rt; same(plan, &before));
+    assert!(rt; *plan == before);
     Ok(())
 }
 
@@ -94,9 +77,12 @@ fn check_clash(rt: &impl Abort, reply: Reply, of: [i32; 4]) -> Result<(), Fail> 
         return Err(Fail::new("no clash"));
     };
     assert!(rt; rules == 4);
-    for i in 0..ROWS {
-        assert!(rt; weights[i] == if i < 4 { of[i] } else { 0 });
-    }
+    assert!(rt;
+        weights
+            == [
+                of[0], of[1], of[2], of[3], 0, 0, 0, 0, 0, 0, 0, 0, 0, 0, 0, 0
+            ]
+    );
     Ok(())
 }
 
@@ -105,9 +91,12 @@ fn check_blamed(rt: &impl Abort, reply: Reply, of: [u8; 4]) -> Result<(), Fail> 
     let Reply::Blamed(marks) = reply else {
         return Err(Fail::new("none is blamed"));
     };
-    for i in 0..ROWS {
-        assert!(rt; marks[i] == if i < 4 { of[i] } else { 0 });
-    }
+    assert!(rt;
+        marks
+            == [
+                of[0], of[1], of[2], of[3], 0, 0, 0, 0, 0, 0, 0, 0, 0, 0, 0, 0
+            ]
+    );
     Ok(())
 }
 
@@ -208,7 +197,7 @@ fn muted_rules(rt: HostRuntime) -> Result<(), Fail> {
     let before = plan;
     check_clash(&rt, reply(&mut plan, Command::Ask), [1, 0, 1, 0])?;
     check_blamed(&rt, reply(&mut plan, Command::Blame), [1, 0, 1, 0])?;
-    assert!(rt; same(&plan, &before));
+    assert!(rt; plan == before);
     Ok(())
 }
 
@@ -268,7 +257,7 @@ fn refused_calls_leave_sheet_and_marks(rt: HostRuntime) -> Result<(), Fail> {
     assert_eq!(rt; asked, Err(Refusal::NoPlan));
     let blamed = blame(&mut plan, &mut engine, cells, &mut marks);
     assert_eq!(rt; blamed, Err(table_full()));
-    assert!(rt; same(&plan, &before));
+    assert!(rt; plan == before);
     plan.mute(1)?;
     let asked = ask(&plan, &mut engine, cells, &mut sheet);
     assert_eq!(rt; asked, Err(table_full()));

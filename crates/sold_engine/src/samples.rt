@@ -2,8 +2,6 @@
 ghost use Rattle.sold_engine.specs.SamplePlans.{SamplesDecided};
 
 // States the verdict on each sample plan. It computes nothing.
-pub fn sample_plans_are_decided() -> u8
+pub fn sample_plans_are_decided()
     ensures { SamplesDecided }
-{
-    0
-}
+{}

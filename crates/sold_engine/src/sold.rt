@@ -4,8 +4,8 @@ ghost use Rattle.engine.specs.States.{state_view};
 ghost use Rattle.engine.specs.Interface.{none};
 ghost use Rattle.elimination.specs.Table.{room};
 
-use elimination::{Cell, Elimination, ROOM};
-use substitution::Substitution;
+use elimination::{Cell, Elimination, FourierMotzkin, ROOM};
+use substitution::{Substituting, Substitution};
 
 // Equations are substituted away, and the rest is eliminated.
 pub type SoldEngine = Substitution<Elimination>;
@@ -14,7 +14,8 @@ pub type SoldEngine = Substitution<Elimination>;
 pub fn new_engine() -> SoldEngine
     ensures { state_view result.state ≡ record { count = 0; rows = []; answer = none } }
 {
-    Substitution::new(Elimination::new())
+    let below = Elimination::new(FourierMotzkin);
+    Substitution::new(Substituting { below })
 }
 
 // As many places as a decision needs.

@@ -1,36 +1,26 @@
 // Plans with equations and without, decided by the engine as sold.
-use elimination::{Cell, Elimination, ROOM};
+use crate::sold::{SoldEngine, new_engine, new_table};
 use engine::{Cause, Engine, Fault, Refusal};
 use rows::{Kind, Row};
 use std::process::Abort;
 use std::test::Fail;
-use substitution::Substitution;
+use substitution::{Substituting, Substitution};
 
 fn row(kind: Kind, a: i32, b: i32, c: i32, side: i32) -> Result<Row, Fail> {
-    match Row::new(kind, [a, b, c, 0, 0, 0], side) {
-        Some(row) => Ok(row),
-        None => Err(Fail::new("a number beyond G")),
-    }
+    Row::new(kind, [a, b, c, 0, 0, 0], side).ok_or_else(|| Fail::new("a number beyond G"))
 }
 
 fn taken(reply: Result<(), Refusal>) -> Result<(), Fail> {
-    match reply {
-        Ok(()) => Ok(()),
-        Err(_) => Err(Fail::new("refused")),
-    }
+    reply.map_err(|_| Fail::new("refused"))
 }
 
 // The engine with its answer to the rows, or the fault.
-fn decide(
-    engine: &mut Substitution<Elimination>,
-    count: u8,
-    rows: &[Row],
-) -> Result<Option<Fault>, Fail> {
+fn decide(engine: &mut SoldEngine, count: u8, rows: &[Row]) -> Result<Option<Fault>, Fail> {
     taken(engine.start(count))?;
-    for i in 0..rows.len() {
-        taken(engine.take(&rows[i]))?;
+    for row in rows {
+        taken(engine.take(row))?;
     }
-    let mut table = [Cell::blank(); ROOM];
+    let mut table = new_table();
     match engine.decide(&mut table) {
         Ok(()) => Ok(None),
         Err(Refusal::TooLarge(fault)) => Ok(Some(fault)),
@@ -39,38 +29,27 @@ fn decide(
 }
 
 fn number(reply: Result<i32, Refusal>) -> Result<i32, Fail> {
-    match reply {
-        Ok(n) => Ok(n),
-        Err(_) => Err(Fail::new("no such answer")),
-    }
+    reply.map_err(|_| Fail::new("no such answer"))
 }
 
 fn check_preset(
     rt: &impl Abort,
-    engine: &Substitution<Elimination>,
+    engine: &SoldEngine,
     numerators: [i32; 3],
     denominator: u32,
 ) -> Result<(), Fail> {
-    for k in 0..3 {
-        assert_eq!(rt; number(engine.numerator(k as u8))?, numerators[k]);
+    for (k, numerator) in numerators.iter().enumerate() {
+        assert_eq!(rt; number(engine.numerator(k as u8))?, *numerator);
     }
-    match engine.denominator() {
-        Ok(d) => {
-            assert_eq!(rt; d, denominator);
-            Ok(())
-        },
-        Err(_) => Err(Fail::new("no preset")),
-    }
+    let found = engine.denominator().map_err(|_| Fail::new("no preset"))?;
+    assert_eq!(rt; found, denominator);
+    Ok(())
 }
 
-fn check_weights(
-    rt: &impl Abort,
-    engine: &Substitution<Elimination>,
-    weights: &[i32],
-) -> Result<(), Fail> {
+fn check_weights(rt: &impl Abort, engine: &SoldEngine, weights: &[i32]) -> Result<(), Fail> {
     assert!(rt; weights.len() < 17);
-    for i in 0..weights.len() {
-        assert_eq!(rt; number(engine.weight(i as u8))?, weights[i]);
+    for (i, weight) in weights.iter().enumerate() {
+        assert_eq!(rt; number(engine.weight(i as u8))?, *weight);
     }
     assert!(rt; engine.weight(weights.len() as u8).is_err());
     Ok(())
@@ -78,7 +57,7 @@ fn check_weights(
 
 #[test]
 fn completed_levels(rt: HostRuntime) -> Result<(), Fail> {
-    let mut engine = Substitution::new(Elimination::new());
+    let mut engine = new_engine();
     let rows = [
         row(Kind::AtMost, 1, 0, 1, 90)?,
         row(Kind::Equal, 2, 1, 0, 100)?,
@@ -99,7 +78,7 @@ fn completed_levels(rt: HostRuntime) -> Result<(), Fail> {
 
 #[test]
 fn lifted_weights(rt: HostRuntime) -> Result<(), Fail> {
-    let mut engine = Substitution::new(Elimination::new());
+    let mut engine = new_engine();
     let rows = [
         row(Kind::AtMost, 1, 0, 1, 90)?,
         row(Kind::Equal, 2, 1, 0, 100)?,
@@ -112,7 +91,7 @@ fn lifted_weights(rt: HostRuntime) -> Result<(), Fail> {
 
 #[test]
 fn equations_that_contradict(rt: HostRuntime) -> Result<(), Fail> {
-    let mut engine = Substitution::new(Elimination::new());
+    let mut engine = new_engine();
     let first = row(Kind::Equal, 1, -1, 0, 5)?;
     assert_eq!(rt;
         decide(&mut engine, 2, &[first, row(Kind::Equal, 2, -2, 0, 12)?])?,
@@ -133,7 +112,7 @@ fn equations_that_contradict(rt: HostRuntime) -> Result<(), Fail> {
 
 #[test]
 fn sample_plans(rt: HostRuntime) -> Result<(), Fail> {
-    let mut engine = Substitution::new(Elimination::new());
+    let mut engine = new_engine();
     let evening = [
         row(Kind::AtMost, 1, 1, 0, 150)?,
         row(Kind::Below, -1, 1, 0, 0)?,
@@ -179,12 +158,15 @@ fn sample_plans(rt: HostRuntime) -> Result<(), Fail> {
 
 #[test]
 fn faults_of_the_layer(rt: HostRuntime) -> Result<(), Fail> {
-    let mut engine = Substitution::new(Elimination::new());
+    let mut engine = new_engine();
     let wide = [
         row(Kind::AtMost, 30_001, 40_000, 0, 0)?,
         row(Kind::Equal, 40_000, 1, 0, 0)?,
     ];
-    assert_eq!(rt; decide(&mut engine, 2, &wide)?, Some(Fault::new(Cause::NumberBeyond, 0)));
+    assert_eq!(rt;
+        decide(&mut engine, 2, &wide)?,
+        Some(Fault::new(Cause::NumberBeyond, 0))
+    );
     assert!(rt; engine.denominator().is_err());
     let heavy = [
         row(Kind::Equal, 32_768, 0, 0, 0)?,
@@ -200,7 +182,10 @@ fn faults_of_the_layer(rt: HostRuntime) -> Result<(), Fail> {
         row(Kind::Equal, 0, 100_000, 1, 1)?,
         row(Kind::AtMost, 0, 0, 1, 0)?,
     ];
-    assert_eq!(rt; decide(&mut engine, 3, &fine)?, Some(Fault::new(Cause::NumberBeyond, 0)));
+    assert_eq!(rt;
+        decide(&mut engine, 3, &fine)?,
+        Some(Fault::new(Cause::NumberBeyond, 0))
+    );
     Ok(())
 }
 
@@ -210,7 +195,7 @@ fn faults_from_below(rt: HostRuntime) -> Result<(), Fail> {
     let b = row(Kind::AtMost, 1, -2, 0, 0)?;
     let c = row(Kind::AtMost, -1, 1, 0, 0)?;
     let rows = [a, a, a, a, b, b, b, b, c, c, c, c, c, c, c, c];
-    let mut engine = Substitution::new(Elimination::new());
+    let mut engine = new_engine();
     assert_eq!(rt;
         decide(&mut engine, 2, &rows)?,
         Some(Fault {
@@ -219,7 +204,7 @@ fn faults_from_below(rt: HostRuntime) -> Result<(), Fail> {
         })
     );
     assert!(rt; engine.denominator().is_err());
-    let mut table = [Cell::blank(); ROOM];
+    let mut table = new_table();
     match engine.decide(&mut table[1..]) {
         Err(Refusal::ShortTable) => Ok(()),
         _ => Err(Fail::new("a short table is not refused")),
@@ -232,12 +217,14 @@ fn two_layers(rt: HostRuntime) -> Result<(), Fail> {
     let b = row(Kind::AtMost, 1, -2, 0, 0)?;
     let c = row(Kind::AtMost, -1, 1, 0, 0)?;
     let rows = [a, a, a, a, b, b, b, b, c, c, c, c, c, c, c, c];
-    let mut engine = Substitution::new(Substitution::new(Elimination::new()));
+    let mut engine = Substitution::new(Substituting {
+        below: new_engine(),
+    });
     taken(engine.start(2))?;
-    for i in 0..rows.len() {
-        taken(engine.take(&rows[i]))?;
+    for row in &rows {
+        taken(engine.take(row))?;
     }
-    let mut table = [Cell::blank(); ROOM];
+    let mut table = new_table();
     match engine.decide(&mut table) {
         Err(Refusal::TooLarge(fault)) => {
             assert_eq!(rt; fault.layer, 2);
