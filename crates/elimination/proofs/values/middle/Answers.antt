@@ -1,4 +1,4 @@
-use Rattle.std.proofs.Common.{◌≡◌, ◌*◌, ◌<◌, ◌≤◌, false, ℤ, pos, ◌+ℤ◌, ◌*ℤ◌, ◌∙◌, mul-pos, arith, w64, SFits, rules}
+use Rattle.std.proofs.Common.{◌≡◌, ◌*◌, ◌<◌, ◌≤◌, false, ℤ, pos, ◌+ℤ◌, ◌*ℤ◌, ◌∙◌, mul-pos, w64, SFits, rules}
 use Rattle.std.proofs.lemmas.Int.{to_z-of_z}
 use Rattle.std.proofs.lemmas.Nat.{mul-le}
 use Rattle.rows.specs.Limits.{largest}
@@ -18,15 +18,6 @@ module _ (l u : Limit) where
   -- the numerator
   sum_fits : (p q : ℤ) → p ≡ l.numerator *ℤ pos u.denominator → q ≡ u.numerator *ℤ pos l.denominator → SFits w64 (p +ℤ q)
   sum_fits p q a b = rw (a, b) (two_products l.numerator (pos u.denominator) u.numerator (pos l.denominator) l.within u.bounded u.within l.bounded)
-
-pub lowest-requires : goal.lowest-requires
-lowest-requires c = (omega (arith, some c.args.l.now c.args.u.now), omega (arith, small c.args.l.now c.args.u.now))
-
-pub overflow_add-across : goal.overflow_add-across
-overflow_add-across c =
-    let f : SFits w64 c.across.result = search rules in
-    let g : SFits w64 c.across-2.result = search rules in
-    simp to_z-of_z (sum_fits c.args.l.now c.args.u.now c.across.result c.across-2.result c.across.ensures c.across-2.ensures)
 
 pub returns : goal.returns
 returns c =
