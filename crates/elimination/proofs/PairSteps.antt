@@ -82,11 +82,3 @@ module _ (k held i m : ℕ) (o t : List Cell) (c : Cell) (g : room ≤ length o)
       subst (λ (ps : List (Line × Line)). Appends k held ps o (Err f) v) (sym (pairs_whole k T i (line c) in_rows row_is upper))
       (appends_stop k held (pairs (uppers k (take i T)) (lowers k T) ++ with_each (line c) (lowers k T)) (pairs (uppers k (drop (i + 1) T)) (lowers k T)) o f w v
       (subst (λ (ps : List (Line × Line)). Appends k held ps o (Err f) w) (pairs_next k T i (line c) in_rows row_is upper) row))
-
-pub outer_ends : (k held i m : ℕ) (o t : List Cell) → held ≤ i → held ≤ length o
-    → Appends k held (pairs (uppers k (take i (lines (take held o)))) (lowers k (lines (take held o)))) o (Ok m) t
-    → Appends k held (pairs (uppers k (lines (take held o))) (lowers k (lines (take held o)))) o (Ok m) t
-outer_ends k held i m o t h g a =
-    let l : length (lines (take held o)) ≡ length (take held o) = length-map (take held o) line in
-    let s : length (take held o) ≡ held = length-take-le held o g in
-    subst (λ (x : List Line). Appends k held (pairs (uppers k x) (lowers k (lines (take held o)))) o (Ok m) t) (take_all i (lines (take held o)) (omega arith)) a

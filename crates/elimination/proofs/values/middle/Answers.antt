@@ -1,32 +1,14 @@
-use Rattle.std.proofs.Common.{◌≡◌, ◌*◌, ◌<◌, ◌≤◌, false, ℤ, pos, ◌+ℤ◌, ◌*ℤ◌, ◌∙◌, mul-pos, arith, w64, SFits, rules}
+use Rattle.std.proofs.Common.{◌≡◌, ◌*◌, false, ℤ, pos, ◌+ℤ◌, ◌*ℤ◌, ◌∙◌, w64, SFits, rules}
 use Rattle.std.proofs.lemmas.Int.{to_z-of_z}
-use Rattle.std.proofs.lemmas.Nat.{mul-le}
-use Rattle.rows.specs.Limits.{largest}
 use Rattle.rows.proofs.Blends.{two_products}
 use Rattle.elimination.specs.declared.limit.Limit.{Limit}
 use Rattle.elimination.specs.Levels.{lowest}
 use Rattle.elimination.proofs.values.middle.Goals as goal
 
--- the denominator
+-- the numerator
 module _ (l u : Limit) where
-  small : l.denominator * u.denominator ≤ largest * largest
-  small = mul-le l.denominator u.denominator largest largest l.bounded u.bounded
-
-  some : 0 < l.denominator * u.denominator
-  some = mul-pos l.positive u.positive
-
-  -- the numerator
   sum_fits : (p q : ℤ) → p ≡ l.numerator *ℤ pos u.denominator → q ≡ u.numerator *ℤ pos l.denominator → SFits w64 (p +ℤ q)
   sum_fits p q a b = rw (a, b) (two_products l.numerator (pos u.denominator) u.numerator (pos l.denominator) l.within u.bounded u.within l.bounded)
-
-pub lowest-requires : goal.lowest-requires
-lowest-requires c = (omega (arith, some c.args.l.now c.args.u.now), omega (arith, small c.args.l.now c.args.u.now))
-
-pub overflow_add-across : goal.overflow_add-across
-overflow_add-across c =
-    let f : SFits w64 c.across.result = search rules in
-    let g : SFits w64 c.across-2.result = search rules in
-    simp to_z-of_z (sum_fits c.args.l.now c.args.u.now c.across.result c.across-2.result c.across.ensures c.across-2.ensures)
 
 pub returns : goal.returns
 returns c =

@@ -1,16 +1,9 @@
 use Rattle.std.proofs.Common.{Ok, Err, get_or, sym, ap, ◌∙◌, arith}
 use Rattle.elimination.specs.declared.cell.Cell.{Cell}
 use Rattle.elimination.specs.Lines.{line}
-use Rattle.elimination.proofs.Appending.{appends_none}
-use Rattle.elimination.proofs.PairSteps.{inner_more, inner_ends, outer_row, outer_skips, outer_stops, outer_ends}
+use Rattle.elimination.proofs.PairSteps.{inner_more, inner_ends, outer_row, outer_skips, outer_stops}
 use Rattle.elimination.proofs.lent.Table.append_pairs.Goals as goal
 use Rattle.elimination.proofs.lent.Table.append_pairs.Goals.{then-stands_on+else-loop-j-test, else-stands_on}
-
-pub loop-i-init : goal.loop-i-init
-loop-i-init c = appends_none c.args.fader.index c.args.self.now.held c.args.self.now.cells.now c.args.self.now.few
-
-pub loop-j-init : goal.loop-j-init
-loop-j-init c = appends_none c.args.fader.index c.loop-i.self.held c.loop-i.self.cells.now c.loop-i.invariant.1
 
 pub loop-j-preserved : goal.loop-j-preserved
 loop-j-preserved c =
@@ -40,7 +33,3 @@ returns-in-Err c =
     c.loop-j.j c.in-Err.fault c.append_pair.new.self.cells.now c.append_pair.new.self.cells.now (sym c.stands_on.ensures ∙ c.if-stands_on.true)
     (inner_more k c.args.self.now.held c.loop-i.self.held c.loop-j.j c.loop-j.self.held (line (get_or c.loop-i.self.cells.now c.loop-i.i c.index-self-i.result)) c.loop-i.self.cells.now c.loop-j.self.cells.now (Err c.in-Err.fault) c.append_pair.new.self.cells.now
     a.0 (omega (arith, a.2, c.args.self.now.places)) c.loop-j-test.true c.loop-j.invariant c.in-Err.ensures)
-
-pub returns-after-loop-i : goal.returns-after-loop-i
-returns-after-loop-i c =
-    outer_ends c.args.fader.index c.args.self.now.held c.loop-i.i c.loop-i.self.held c.args.self.now.cells.now c.loop-i.self.cells.now c.loop-i-test.false (omega (arith, c.args.self.now.few, c.args.self.now.places)) c.loop-i.invariant
