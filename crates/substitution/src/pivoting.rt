@@ -68,7 +68,7 @@ impl Pivot {
         Ok(())
     }
 
-    // The same for the rows of a list.
+    // The same for the rows of a list, in a copy of its array: a write through a part of an array in a field is not followed.
     pub fn cancel_all(&self, rows: &mut ShortList<Kept>) -> Result<(), Fault>
         ensures len { length rows.new ≡ length rows.old }
         ensures value { MatchResult result (λ _. cancel_all self.now.fader.index (numbers_of self.now.row) (kepts rows.old) ≡ Some (kepts rows.new)) (λ f. (cancel_all self.now.fader.index (numbers_of self.now.row) (kepts rows.old) ≡ None) × (f ≡ number_beyond self.now.fader.index)) }
