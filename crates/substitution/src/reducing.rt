@@ -46,6 +46,7 @@ pub fn reduce(rows: ShortList<Kept>) -> Result<Reduction, Stop>
         pivots: ShortList::new(Pivot::blank()),
         place: 0,
     };
+    // kept: the place moves on only past a row that stays, so that no range or iterator gives it.
     while reduction.place < reduction.rows.as_slice().len() {
         reduction.look()?;
     }
