@@ -1,8 +1,9 @@
 -- One look at the rows of the program: what it comes to is what the working comes to. Assumes nothing.
-use Rattle.std.proofs.Common.{◌≡◌, ℕ, ◌+◌, ◌-◌, ◌<◌, true, false, ltb, List, [], ◌∷◌, ◌++◌, length, get_or, take, drop, nat_abs, not, Some, None, refl, sym, ap, ◌∙◌, arith}
+use Rattle.std.proofs.Common.{◌≡◌, ℕ, ◌+◌, ◌-◌, ◌<◌, true, false, ltb, List, [], ◌∷◌, ◌++◌, length, get_or, take, drop, nat_abs, not, Some, None, refl, sym, subst, ap, ◌∙◌, arith}
 use denote.Enum.Bare.{sameb}
 use Rattle.std.specs.List.{remove}
 use Rattle.std.proofs.lemmas.Bool.{true≢false, false≢true}
+use Rattle.std.proofs.lemmas.List.{get_or_default}
 use Rattle.std.proofs.lemmas.List.Edits.{length-remove}
 use Rattle.rows.specs.contracts.kind.Kind.{the_type}
 use Rattle.rows.specs.declared.kind.Kind.{Kind}
@@ -24,10 +25,14 @@ not_equation AtMost e = refl
 not_equation Below e = refl
 not_equation Equal e = absurd (true≢false e)
 
-pub equation : (k : Kind) → false ≡ not (sameb the_type k Equal) → is_equation k ≡ true
+equation : (k : Kind) → false ≡ not (sameb the_type k Equal) → is_equation k ≡ true
 equation AtMost e = absurd (false≢true e)
 equation Below e = absurd (false≢true e)
 equation Equal e = refl
+
+-- what was read at a place and found an equation is what is taken out there
+pub taken_equation : (rows xs : List Held) (place : ℕ) (d b : Held) → place < length rows → xs ≡ rows → b ≡ get_or rows place b → false ≡ not (sameb the_type (get_or xs place d).kind Equal) → is_equation b.kind ≡ true
+taken_equation rows xs place d b h e f is = subst (λ (x : Held). is_equation x.kind ≡ true) (ap (λ (ys : List Held). get_or ys place d) e ∙ get_or_default rows place d b h ∙ sym f) (equation (get_or xs place d).kind is)
 
 -- ---- one row
 

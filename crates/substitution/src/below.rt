@@ -72,7 +72,7 @@ fn bring_back(
     listed: usize,
 ) -> Result<Answer, Fault>
     requires verdict { (below : Verdict) × Says (length left.now) below said }
-    requires few { (length left.now ≤ most_rows) × (listed ≤ most_rows) }
+    requires few { listed ≤ most_rows }
     ensures { (below : Verdict) → Says (length left.now) below said → Says listed (lifted listed (kepts left.now) (latest_first pivots.now []) below) result }
 {
     match said.map_err(raise)? {

@@ -23,6 +23,7 @@ impl Kept {
     }
 
     // A row of zeros, to make an array of.
+    // kept: in fixed memory an array has a value at each place, also where there is no row.
     pub fn blank() -> Kept
         ensures { kept_of result ≡ record { kind = AtMost; sum = listed 0 (record { kind = AtMost; coefficients = replicate faders (pos 0); side = pos 0 }) } }
     {
@@ -32,6 +33,7 @@ impl Kept {
 
 impl Pivot {
     // The equation that fader 0 is at level 0, to make an array of.
+    // kept: in fixed memory an array has a value at each place, also where there is no pivot.
     pub fn blank() -> Pivot
         ensures { pivot_of result ≡ record { fader = 0; sum = record { coefficients = slice_set (replicate faders (pos 0)) 0 (pos 1); side = pos 0; weights = replicate most_rows (pos 0) } } }
     {

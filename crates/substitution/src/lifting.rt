@@ -19,7 +19,7 @@ fn add_term(sum: i32, weight: i32, carried: i32) -> Option<i32>
 
 // The weight of the listed row at a place: the weights below times its weights in the rows handed down, added in order.
 fn lift_one(below: &Weights, rows: &[Kept], place: usize) -> Option<i32>
-    requires { (length rows.now ≤ most_rows) × (place < most_rows) }
+    requires { place < most_rows }
     ensures { result ≡ add_terms (pos 0) (take (length rows.now) below.now.values) (carried_weights place (kepts rows.now)) }
 {
     let mut sum = 0i32;
@@ -31,7 +31,7 @@ fn lift_one(below: &Weights, rows: &[Kept], place: usize) -> Option<i32>
 
 // The weights of so many listed rows; where one is beyond G, the fault names the first such row.
 pub fn lift(below: &Weights, rows: &[Kept], listed: usize) -> Result<Weights, Fault>
-    requires { (length rows.now ≤ most_rows) × (listed ≤ most_rows) }
+    requires { listed ≤ most_rows }
     ensures { MatchResult result (λ w. lifted_weights listed 0 (take (length rows.now) below.now.values) (kepts rows.now) ≡ Ok (take listed w.values)) (λ f. lifted_weights listed 0 (take (length rows.now) below.now.values) (kepts rows.now) ≡ Err f) }
 {
     let mut values = [0; ROWS];

@@ -68,6 +68,7 @@ impl Pivot {
     }
 
     // The same for the rows of a list.
+    // kept: the rows are written in a copy of the array, since a proof knows nothing of a write through a part of an array in a field.
     pub fn cancel_all(&self, rows: &mut ShortList<Kept>) -> Result<(), Fault>
         ensures len { length rows.new ≡ length rows.old }
         ensures value { MatchResult result (λ _. cancel_all self.now.fader.index (numbers_of self.now.row) (kepts rows.old) ≡ Some (kepts rows.new)) (λ f. (cancel_all self.now.fader.index (numbers_of self.now.row) (kepts rows.old) ≡ None) × (f ≡ number_beyond self.now.fader.index)) }
@@ -80,6 +81,7 @@ impl Pivot {
 }
 
 // The weights of a row, each times -1.
+// kept: `map` asks that every i32 can be negated; that each weight is within G does not reach its closure.
 fn negated(row: &Carried) -> [i32; ROWS]
     ensures { result ≡ scale (negsuc 0) row.now.weights }
 {

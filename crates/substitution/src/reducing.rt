@@ -18,22 +18,18 @@ impl Reduction {
         ensures value { ahead_after self.new result ≡ ahead self.old }
         ensures onward { OnwardAfter self.old self.new result }
     {
-        let kept = self.rows.as_slice()[self.place];
-        if kept.kind != Kind::Equal {
+        if self.rows.as_slice()[self.place].kind != Kind::Equal {
             self.place += 1;
             return Ok(());
         }
-        self.rows.remove(self.place);
-        let Some(fader) = first_fader(&kept.row) else {
-            if kept.row.side != 0 {
-                return Err(Stop::Clash(contradiction(&kept.row)));
+        let row = self.rows.remove(self.place).row;
+        let Some(fader) = first_fader(&row) else {
+            if row.side != 0 {
+                return Err(Stop::Clash(contradiction(&row)));
             }
             return Ok(());
         };
-        let pivot = Pivot {
-            fader,
-            row: kept.row,
-        };
+        let pivot = Pivot { fader, row };
         pivot.cancel_all(&mut self.rows)?;
         self.pivots.push(pivot);
         Ok(())
@@ -50,7 +46,8 @@ pub fn reduce(rows: ShortList<Kept>) -> Result<Reduction, Stop>
         pivots: ShortList::new(Pivot::blank()),
         place: 0,
     };
-    while reduction.place < reduction.rows.len() {
+    // kept: the place moves on only past a row that stays, so that no range or iterator gives it.
+    while reduction.place < reduction.rows.as_slice().len() {
         reduction.look()?;
     }
     Ok(reduction)

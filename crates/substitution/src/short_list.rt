@@ -1,5 +1,5 @@
 // A list of at most so many items as a list of rows can have, in fixed memory. Assumes nothing.
-ghost use Rattle.std.specs.Prelude.{◌≡◌, ◌<◌, ◌≤◌, [], ◌∷◌, ◌++◌, length, slice_index_or};
+ghost use Rattle.std.specs.Prelude.{◌≡◌, ◌<◌, [], ◌∷◌, ◌++◌, length, slice_index_or};
 ghost use Rattle.std.specs.List.{remove};
 ghost use Rattle.rows.specs.Limits.{most_rows};
 
@@ -34,13 +34,6 @@ impl<T: Copy> ShortList<T> {
             items: [filler; ROWS],
             len: 0,
         }
-    }
-
-    pub fn len(&self) -> usize
-        ensures value { result ≡ length self.now }
-        ensures few { result ≤ most_rows }
-    {
-        self.len
     }
 
     pub fn as_slice(&self) -> &[T]

@@ -18,7 +18,7 @@ loop-place-preserved c =
     let n = (terms_sum (pos 0) ws (carried_weights j rs) w zero_within (sym e)).1 in
     let f : SFits w32 w = fits_32 w n in
     let items = c.loop-place.value-items in
-    let k = length-take-le c.args.listed (replicate 16 (pos 0)) c.requires.1 in
+    let k = length-take-le c.args.listed (replicate 16 (pos 0)) c.requires in
     simp to_z-of_z (
       length-set items j w ∙ c.loop-place.invariant.0,
       within_set items j w c.loop-place.invariant.1 n,

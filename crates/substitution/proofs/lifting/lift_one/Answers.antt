@@ -1,5 +1,5 @@
 use Rattle.std.proofs.Common.{◌≡◌, ℕ, ◌<◌, List, length, get_or, take, ℤ, pos, Some, None, Option, sym, ap, ◌∙◌, subst, arith, w32, to_z, SFits, rules}
-use Rattle.std.proofs.lemmas.List.{length-take-le, get_or-take, length_push}
+use Rattle.std.proofs.lemmas.List.{length-take, get_or-take, length_push}
 use Rattle.std.proofs.lemmas.Int.{to_z-of_z}
 use Rattle.std.proofs.lemmas.Slice.Zip.{zip_turn}
 use Rattle.rows.proofs.Fits.{fits_32}
@@ -26,14 +26,14 @@ returns-in_err-sum c =
     let r = c.in-Some.kept.now in
     let us = carried_weights place (kepts rows) in
     let n = carried_length rows place in
-    let k : length (take (length rows) ws) ≡ length rows = length-take-le (length rows) ws (omega (arith, c.requires.0, c.args.below.now.places)) in
+    let k = length-take (length rows) ws in
     let t = zip_turn ws rows c.loop-weight.yielded c.into_iter-weight-iterator.result c.loop-weight.weight-iterator c.next.new.self c.next.result (cc) (cc) c.loop-weight.yielded_by _ c.in-Some.is c.next.ensures.steps in
     let w = t.2 (pos 0) in
     let b : SFits w32 c.in-Some.weight.now = subst (SFits w32) (sym w) (fits_32 (get_or ws i (pos 0)) (c.args.below.now.within i)) in
     let d : SFits w32 (get_or r.row.weights place (pos 0)) = fits_32 (get_or r.row.weights place (pos 0)) (r.row.light place) in
     let q = simp to_z-of_z at c.add_term.ensures in
     let v = λ (o : Option ℤ) (is : c.add_term.result ≡ o). by_place ws rows i place r (to_z w32 c.loop-weight.sum-bits) t.1 (t.3 r) o (sym is ∙ q ∙ ap (λ (z : ℤ). with_term (to_z w32 c.loop-weight.sum-bits) z (get_or r.row.weights place (pos 0))) w) in
-    c.from_residual.ensures ∙ terms_none (take (length rows) ws) us i (omega (arith, t.1)) (omega (arith, t.1)) _ (v None c.in_err-sum.was) ∙ sym c.loop-weight.invariant.0
+    c.from_residual.ensures ∙ terms_none (take (length rows) ws) us i (omega (arith, k, n, t.0, t.1)) (omega (arith, k, n, t.0, t.1)) _ (v None c.in_err-sum.was) ∙ sym c.loop-weight.invariant.0
 
 pub loop-weight-preserved : goal.loop-weight-preserved
 loop-weight-preserved c =
@@ -44,7 +44,7 @@ loop-weight-preserved c =
     let r = c.in-Some.kept.now in
     let us = carried_weights place (kepts rows) in
     let n = carried_length rows place in
-    let k : length (take (length rows) ws) ≡ length rows = length-take-le (length rows) ws (omega (arith, c.requires.0, c.args.below.now.places)) in
+    let k = length-take (length rows) ws in
     let t = zip_turn ws rows c.loop-weight.yielded c.into_iter-weight-iterator.result c.loop-weight.weight-iterator c.next.new.self c.next.result (cc) (cc) c.loop-weight.yielded_by _ c.in-Some.is c.next.ensures.steps in
     let w = t.2 (pos 0) in
     let b : SFits w32 c.in-Some.weight.now = subst (SFits w32) (sym w) (fits_32 (get_or ws i (pos 0)) (c.args.below.now.within i)) in
@@ -53,4 +53,4 @@ loop-weight-preserved c =
     let v = λ (o : Option ℤ) (is : c.add_term.result ≡ o). by_place ws rows i place r (to_z w32 c.loop-weight.sum-bits) t.1 (t.3 r) o (sym is ∙ q ∙ ap (λ (z : ℤ). with_term (to_z w32 c.loop-weight.sum-bits) z (get_or r.row.weights place (pos 0))) w) in
     let m : SFits w32 c.in_ok-sum.sum = search rules in
     rw (length_push c.loop-weight.yielded (c.in-Some.weight, c.in-Some.kept))
-    (simp to_z-of_z (c.loop-weight.invariant.0 ∙ terms_some (take (length rows) ws) us i (omega (arith, t.1)) (omega (arith, t.1)) _ c.in_ok-sum.sum (v (Some c.in_ok-sum.sum) c.in_ok-sum.was)), (tt, tt), tt)
+    (simp to_z-of_z (c.loop-weight.invariant.0 ∙ terms_some (take (length rows) ws) us i (omega (arith, k, n, t.0, t.1)) (omega (arith, k, n, t.0, t.1)) _ c.in_ok-sum.sum (v (Some c.in_ok-sum.sum) c.in_ok-sum.was)), (tt, tt), tt)
