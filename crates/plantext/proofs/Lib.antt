@@ -2,6 +2,7 @@
 pub mod Back
 pub mod Cutting
 pub mod Gathered
+pub mod Holding
 pub mod Lining
 pub mod Spaced
 pub mod Spelt
