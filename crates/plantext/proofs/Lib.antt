@@ -1,5 +1,6 @@
 -- The lemmas that several proofs share, in the order of the layers.
 pub mod Back
+pub mod Counting
 pub mod Cutting
 pub mod Gathered
 pub mod Holding

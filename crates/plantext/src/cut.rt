@@ -1,5 +1,6 @@
 // Cuts a text into lines, and a line into words. Assumes nothing.
 ghost use Rattle.std.specs.Prelude.{◌≡◌, ◌<◌, [], ◌∷◌, length, IfSome, MatchOption};
+ghost use Rattle.std.specs.Iterator.{YieldsFirstRef, item_count};
 ghost use Rattle.plantext.specs.Cuts.{white, before_comment, words, lines};
 
 // Starts a comment, which goes to the end of its line.
@@ -32,10 +33,7 @@ pub fn first_word(text: &[u8]) -> Option<(&[u8], &[u8])>
 {
     let start = text.iter().position(|b| !is_white(*b))?;
     let word = &text[start..];
-    let end = word
-        .iter()
-        .position(|b| is_white(*b))
-        .unwrap_or(word.len());
+    let end = word.iter().position(|b| is_white(*b)).unwrap_or(word.len());
     Some(word.split_at(end))
 }
 
@@ -50,5 +48,23 @@ pub fn first_line(text: &[u8]) -> Option<(&[u8], &[u8])>
     match text.iter().position(|b| *b == LINE_FEED) {
         Some(i) => Some((&text[..i], &text[i + 1..])),
         None => Some((text, &[])),
+    }
+}
+
+// The lines of a text, one by one.
+#[derive(Clone, Copy)]
+pub struct Lines<'a>(pub &'a [u8]);
+
+impl<'a> Iterator for Lines<'a> {
+    type Item = &'a [u8];
+
+    ghost next_gives = { YieldsFirstRef (λ s. lines s.0.now) };
+
+    ghost remaining = { item_count (λ s. lines s.0.now) };
+
+    fn next(&mut self) -> Option<&'a [u8]> {
+        let (line, rest) = first_line(self.0)?;
+        self.0 = rest;
+        Some(line)
     }
 }

@@ -12,9 +12,10 @@ mod tests;
 pub mod word;
 pub mod words;
 
-pub use cut::first_line;
+pub use cut::{Lines, first_line};
 pub use numbers::Numbers;
 pub use problem::Problem;
 pub use statement::Statement;
 pub use statements::{read_line, reads_back};
 pub use word::{Misspelling, Word};
+pub use words::Words;

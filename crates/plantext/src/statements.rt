@@ -7,20 +7,14 @@ use crate::cut::uncommented;
 use crate::problem::Problem;
 use crate::statement::Statement;
 use crate::word::Word;
-use crate::words::{after_numbers, front_numbers, next_word, one_number};
+use crate::words::{Words, after_numbers, front_numbers, next_word, one_number};
 
 // Whether all words of a text are known.
 fn check_words(text: &[u8]) -> Result<(), Problem>
     ensures { result ≡ all_known 0 (words_of text.now) }
 {
-    let mut place = 0;
-    let mut rest = text;
-    while let Some((word, after)) = next_word(rest) {
-        if let Err(misspelling) = word {
-            return Err(misspelling.at(place));
-        }
-        place += 1;
-        rest = after;
+    for (place, word) in Words(text).enumerate() {
+        word.map_err(|misspelling| misspelling.at(place))?;
     }
     Ok(())
 }

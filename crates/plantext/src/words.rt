@@ -1,5 +1,6 @@
 // Takes words and numbers off the front of a text. Assumes nothing.
 ghost use Rattle.std.specs.Prelude.{◌≡◌, ◌<◌, [], ◌∷◌, length, IfSome, MatchOption};
+ghost use Rattle.std.specs.Iterator.{YieldsFirst, item_count};
 ghost use Rattle.plantext.specs.Grammar.{words_of, front_numbers, after_numbers, held, one_number};
 
 use crate::cut::first_word;
@@ -15,6 +16,24 @@ pub fn next_word(text: &[u8]) -> Option<(Result<Word, Misspelling>, &[u8])>
 {
     let (bytes, rest) = first_word(text)?;
     Some((read_word(bytes), rest))
+}
+
+// The words of a text, one by one.
+#[derive(Clone, Copy)]
+pub struct Words<'a>(pub &'a [u8]);
+
+impl<'a> Iterator for Words<'a> {
+    type Item = Result<Word, Misspelling>;
+
+    ghost next_gives = { YieldsFirst (λ s. words_of s.0.now) };
+
+    ghost remaining = { item_count (λ s. words_of s.0.now) };
+
+    fn next(&mut self) -> Option<Result<Word, Misspelling>> {
+        let (word, rest) = next_word(self.0)?;
+        self.0 = rest;
+        Some(word)
+    }
 }
 
 // The numbers at the front of a text.
