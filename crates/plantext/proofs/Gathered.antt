@@ -1,5 +1,5 @@
 -- Numbers that are taken one by one, and the numbers of the whole list. Assumes nothing.
-use Rattle.std.proofs.Common.{◌≡◌, ◌<◌, ◌≤◌, List, [], ◌∷◌, ◌++◌, length, ℤ, Ok, Err, sym, refl, ap, ◌∙◌, append-nil, append_assoc, arith, length-append}
+use Rattle.std.proofs.Common.{◌≡◌, ◌<◌, ◌≤◌, List, [], ◌∷◌, ◌++◌, length, ℤ, Ok, Err, sym, ap, ◌∙◌, append-nil, arith, length-append}
 use Rattle.std.proofs.lemmas.Bool.{le-leb, lt-leb}
 use Rattle.plantext.specs.Grammar.{held}
 use Rattle.plantext.specs.declared.problem.Problem.TheVariants.{TooManyNumbers}

@@ -5,5 +5,6 @@ pub mod Cutting
 pub mod Gathered
 pub mod Holding
 pub mod Lining
+pub mod Named
 pub mod Spaced
 pub mod Spelt

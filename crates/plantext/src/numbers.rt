@@ -42,17 +42,11 @@ impl Numbers {
         }
     }
 
-    pub fn len(&self) -> usize
-        ensures count { result ≡ length self.now }
-        ensures room { result ≤ 16 }
-    {
-        self.len
-    }
-
     pub fn as_slice(&self) -> &[i64]
         ensures { result.now ≡ self.now }
     {
-        &self.values[..self.len]
+        let (numbers, _) = self.values.split_at(self.len);
+        numbers
     }
 
     // Sixteen places: the numbers, and zeros after them.

@@ -55,24 +55,22 @@ fn number_word(bytes: &[u8]) -> Result<Word, Misspelling>
     }
 }
 
+// The words that are spelt in one way.
+const FIXED: [(&[u8], Word); 7] = [
+    (b"faders", Word::Faders),
+    (b"preset", Word::Preset),
+    (b"clash", Word::Clash),
+    (b"<=", Word::Compare(Kind::AtMost)),
+    (b"<", Word::Compare(Kind::Below)),
+    (b"=", Word::Compare(Kind::Equal)),
+    (b"/", Word::Slash),
+];
+
 pub fn read_word(bytes: &[u8]) -> Result<Word, Misspelling>
     ensures { result ≡ word_of bytes.now }
 {
-    if bytes == b"faders".as_slice() {
-        Ok(Word::Faders)
-    } else if bytes == b"preset".as_slice() {
-        Ok(Word::Preset)
-    } else if bytes == b"clash".as_slice() {
-        Ok(Word::Clash)
-    } else if bytes == b"<=".as_slice() {
-        Ok(Word::Compare(Kind::AtMost))
-    } else if bytes == b"<".as_slice() {
-        Ok(Word::Compare(Kind::Below))
-    } else if bytes == b"=".as_slice() {
-        Ok(Word::Compare(Kind::Equal))
-    } else if bytes == b"/".as_slice() {
-        Ok(Word::Slash)
-    } else {
-        number_word(bytes)
+    match FIXED.iter().find(|(spelling, _)| bytes == *spelling) {
+        Some((_, word)) => Ok(*word),
+        None => number_word(bytes),
     }
 }

@@ -1,10 +1,9 @@
 -- What `first_line` leaves to show. Assumes nothing.
-use Rattle.std.proofs.Common.{rules, tests, ◌≡◌, ◌+◌, ◌-◌, ◌<◌, eqb, length, take, drop, Some, None, sym, ap, ◌∙◌, arith, length-drop, true-eqb, false-eqb}
-use Rattle.std.specs.List.{position, position_or_len}
+use Rattle.std.proofs.Common.{rules, tests, ◌≡◌, ◌+◌, ◌-◌, ◌<◌, eqb, length, drop, Some, None, arith, length-drop, false-eqb}
+use Rattle.std.specs.List.{position}
 use Rattle.std.proofs.lemmas.Iterator.{YieldsList-from_slice}
 use Rattle.std.proofs.lemmas.Iterator.Search.{position_from_yields_List}
-use Rattle.std.proofs.lemmas.List.{nil_from_length, take_all}
-use Rattle.plantext.specs.Cuts.{lines}
+use Rattle.std.proofs.lemmas.List.{take_all}
 use Rattle.plantext.proofs.Lining.{lines_cut, lines_last}
 use Rattle.plantext.proofs.cut.first_line.Goals as goal
 

@@ -1,6 +1,6 @@
 -- What `first_word` leaves to show. Assumes nothing.
-use Rattle.std.proofs.Common.{rules, tests, ◌≡◌, ◌-◌, length, take, drop, Some, None, refl, sym, ◌∙◌, arith, length-drop}
-use Rattle.std.specs.List.{position, position_or_len}
+use Rattle.std.proofs.Common.{rules, tests, ◌≡◌, ◌-◌, length, take, drop, refl, sym, ◌∙◌, arith, length-drop}
+use Rattle.std.specs.List.{position}
 use Rattle.std.proofs.lemmas.Iterator.{YieldsList-from_slice}
 use Rattle.std.proofs.lemmas.Iterator.Search.{position_from_yields_List}
 use Rattle.std.proofs.lemmas.List.{take_all}

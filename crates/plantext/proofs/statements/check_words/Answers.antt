@@ -1,6 +1,5 @@
 -- What `check_words` leaves to show. Assumes nothing.
-use Rattle.std.proofs.Common.{◌≡◌, ◌<◌, length, inl, arith, rules}
-use Rattle.plantext.specs.Grammar.{words_of}
+use Rattle.std.proofs.Common.{rules}
 use Rattle.plantext.proofs.Counting.{words_of_few}
 use Rattle.plantext.proofs.statements.check_words.Goals as goal
 

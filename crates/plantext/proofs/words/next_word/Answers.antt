@@ -1,5 +1,5 @@
 -- What `next_word` leaves to show. Assumes nothing.
-use Rattle.std.proofs.Common.{◌≡◌, ◌∷◌, map, sym, ap, ◌∙◌}
+use Rattle.std.proofs.Common.{◌∷◌, map, sym, ap, ◌∙◌}
 use Rattle.plantext.specs.Grammar.{words_of}
 use Rattle.plantext.specs.Spelling.{word_of}
 use Rattle.plantext.proofs.words.next_word.Goals as goal

@@ -1,5 +1,5 @@
 -- What `push` leaves to show. Assumes nothing.
-use Rattle.std.proofs.Common.{◌<◌, w64, SFits, rules, arith}
+use Rattle.std.proofs.Common.{w64, SFits, rules, arith}
 use Rattle.std.proofs.lemmas.Int.{to_z-of_z}
 use Rattle.plantext.proofs.Holding.{held_more}
 use Rattle.plantext.proofs.numbers.Numbers.push.Goals as goal
