@@ -1,10 +1,9 @@
 -- How a rule's numbers reach the plan, and which complaint stands. Assumes nothing.
 use Rattle.std.proofs.Common.{◌≡◌, ℕ, Bool, true, not, List, ℤ, Some, None, Ok, Err, Option, Result, sym, ap, ◌∙◌, subst}
-use Rattle.rows.specs.Limits.{near, narrowed}
+use Rattle.rows.specs.Limits.{near}
 use Rattle.engine.specs.Interface.{Does, first_refusal, refused_if, unused_refusal}
 use Rattle.engine.specs.declared.refusal.Refusal.{Refusal}
 use Rattle.engine.specs.declared.refusal.Refusal.TheVariants.{BadSide}
-use Rattle.rows.proofs.Blends.{none_narrowed}
 use Rattle.plans.specs.Ranges.{coefficient_range}
 use Rattle.plans.specs.Plans.{PlanView}
 use Rattle.plans.specs.Edits.{Added, add_refusal, after_add}
@@ -15,9 +14,6 @@ use Rattle.plancheck.specs.Edits.{numbers_refusal}
 module _ (kind : ℕ) (zs : List ℤ) (s : ℤ) (v : PlanView) (e : first_beyond coefficient_range 0 zs ≡ None) where
   at_side : numbers_refusal kind zs s v ≡ first_refusal (refused_if (not (near s)) BadSide) (add_refusal kind zs s v)
   at_side = ap (λ (o : Option ℕ). first_refusal (unused_refusal o) (first_refusal (refused_if (not (near s)) BadSide) (add_refusal kind zs s v))) e
-
-  pub side_far : None ≡ narrowed s → numbers_refusal kind zs s v ≡ Some BadSide
-  side_far h = at_side ∙ ap (λ (b : Bool). first_refusal (refused_if (not b) BadSide) (add_refusal kind zs s v)) (none_narrowed s h)
 
   pub side_near : near s ≡ true → numbers_refusal kind zs s v ≡ add_refusal kind zs s v
   side_near h = at_side ∙ ap (λ (b : Bool). first_refusal (refused_if (not b) BadSide) (add_refusal kind zs s v)) h

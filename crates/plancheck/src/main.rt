@@ -15,7 +15,7 @@ mod verdict;
 mod width;
 mod words;
 
-use anyhow::anyhow;
+use anyhow::ensure;
 use follow::follow;
 use outcome::is_blank;
 use plans::Plan;
@@ -48,9 +48,6 @@ fn main(rt: HostRuntime) -> anyhow::Result<()> {
     rt.stdin().read_to_end(&mut text)?;
     let tally = check_lines(&rt, text.as_slice())?;
     rt.println(tally)?;
-    if tally.is_clean() {
-        Ok(())
-    } else {
-        Err(anyhow!("not all is well"))
-    }
+    ensure!(tally.is_clean(), "not all is well");
+    Ok(())
 }

@@ -2,7 +2,6 @@
 pub mod Back
 pub mod Counting
 pub mod Cutting
-pub mod Gathered
 pub mod Holding
 pub mod Lining
 pub mod Named

@@ -1,4 +1,4 @@
-// The numbers in a row of a statement. They are held in a fixed buffer, so that reading a line cannot run out of memory. Assumes nothing.
+// The numbers in a row of a statement. Assumes nothing.
 ghost use Rattle.std.specs.Prelude.{◌≡◌, ◌<◌, ◌≤◌, [], ◌∷◌, ◌++◌, length, MatchResult};
 ghost use Rattle.plantext.specs.declared.problem.Problem.TheVariants.{TooManyNumbers};
 ghost use Rattle.plantext.specs.Padding.{padded};
@@ -10,6 +10,7 @@ use std::marker::Model;
 pub const MOST_NUMBERS: usize = 16;
 
 // At most sixteen numbers, in order; the places after them hold zeros.
+// kept: a buffer with a length beside it, behind methods that show a list, since reading a line could not run out of memory before
 #[derive(Clone, Copy, PartialEq, Eq, Debug)]
 pub struct Numbers {
     values: [i64; MOST_NUMBERS],
