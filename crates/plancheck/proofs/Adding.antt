@@ -1,27 +1,19 @@
 -- How a rule's numbers reach the plan, and which complaint stands. Assumes nothing.
-use Rattle.std.proofs.Common.{◌≡◌, ℕ, Bool, true, cond, not, eqb, List, take, ℤ, Some, None, Ok, Err, Option, Result, sym, ap, ◌∙◌, subst}
-use Rattle.std.proofs.lemmas.Bool.{eq-eqb, ne_eqb}
-use Rattle.rows.specs.Limits.{faders, near, narrowed}
+use Rattle.std.proofs.Common.{◌≡◌, ℕ, Bool, true, not, List, ℤ, Some, None, Ok, Err, Option, Result, sym, ap, ◌∙◌, subst}
+use Rattle.rows.specs.Limits.{near}
 use Rattle.engine.specs.Interface.{Does, first_refusal, refused_if, unused_refusal}
 use Rattle.engine.specs.declared.refusal.Refusal.{Refusal}
-use Rattle.engine.specs.declared.refusal.Refusal.TheVariants.{NoPlan, BadSide}
-use Rattle.rows.proofs.Blends.{none_narrowed}
+use Rattle.engine.specs.declared.refusal.Refusal.TheVariants.{BadSide}
 use Rattle.plans.specs.Ranges.{coefficient_range}
 use Rattle.plans.specs.Plans.{PlanView}
 use Rattle.plans.specs.Edits.{Added, add_refusal, after_add}
-use Rattle.plantext.specs.declared.statement.Numbers.{Numbers}
-use Rattle.plantext.specs.declared.statement.Comparison.{Comparison}
-use Rattle.plancheck.specs.declared.complaint.Complaint.TheVariants.{Refused, Coefficients}
 use Rattle.plancheck.specs.Numbers.{first_beyond}
-use Rattle.plancheck.specs.Edits.{kind_number, numbers_refusal, refused_by, rule_complaint}
+use Rattle.plancheck.specs.Edits.{numbers_refusal}
 
 -- the coefficients are in range
 module _ (kind : ℕ) (zs : List ℤ) (s : ℤ) (v : PlanView) (e : first_beyond coefficient_range 0 zs ≡ None) where
   at_side : numbers_refusal kind zs s v ≡ first_refusal (refused_if (not (near s)) BadSide) (add_refusal kind zs s v)
   at_side = ap (λ (o : Option ℕ). first_refusal (unused_refusal o) (first_refusal (refused_if (not (near s)) BadSide) (add_refusal kind zs s v))) e
-
-  pub side_far : None ≡ narrowed s → numbers_refusal kind zs s v ≡ Some BadSide
-  side_far h = at_side ∙ ap (λ (b : Bool). first_refusal (refused_if (not b) BadSide) (add_refusal kind zs s v)) (none_narrowed s h)
 
   pub side_near : near s ≡ true → numbers_refusal kind zs s v ≡ add_refusal kind zs s v
   side_near h = at_side ∙ ap (λ (b : Bool). first_refusal (refused_if (not b) BadSide) (add_refusal kind zs s v)) h
@@ -42,14 +34,3 @@ done (Some e) next v u w d = absurd d
 pub refused_so : {V : Type 0} (o : Option Refusal) (next v : V) (e : Refusal) (w : V) → Does {U = Unit {0}} o next v (Err e) w → (o ≡ Some e) × (w ≡ v)
 refused_so None next v e w d = absurd d
 refused_so (Some x) next v e w d = (ap Some (sym d.0), d.1)
-
--- a desk is open
-module _ (ns : Numbers) (c : Comparison) (s : ℤ) (v : PlanView) (h : v.count ≡ 0 → ⊥) where
-  at_width : rule_complaint ns c s v ≡ cond (eqb ns.len v.count) (refused_by (numbers_refusal (kind_number c) (take faders ns.values) s v)) (Some (Coefficients (record { found = ns.len; wanted = v.count })))
-  at_width = ap (λ (t : Bool). cond t (Some (Refused NoPlan)) (cond (eqb ns.len v.count) (refused_by (numbers_refusal (kind_number c) (take faders ns.values) s v)) (Some (Coefficients (record { found = ns.len; wanted = v.count }))))) (ne_eqb v.count 0 h)
-
-  pub rule_width : (ns.len ≡ v.count → ⊥) → rule_complaint ns c s v ≡ Some (Coefficients (record { found = ns.len; wanted = v.count }))
-  rule_width w = at_width ∙ ap (λ (t : Bool). cond t (refused_by (numbers_refusal (kind_number c) (take faders ns.values) s v)) (Some (Coefficients (record { found = ns.len; wanted = v.count })))) (ne_eqb ns.len v.count w)
-
-  pub rule_numbers : ns.len ≡ v.count → rule_complaint ns c s v ≡ refused_by (numbers_refusal (kind_number c) (take faders ns.values) s v)
-  rule_numbers w = at_width ∙ ap (λ (t : Bool). cond t (refused_by (numbers_refusal (kind_number c) (take faders ns.values) s v)) (Some (Coefficients (record { found = ns.len; wanted = v.count })))) (eq-eqb ns.len v.count w)

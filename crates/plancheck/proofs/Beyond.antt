@@ -1,7 +1,7 @@
 -- The search for a number that is beyond a bound. Assumes nothing.
-use Rattle.std.proofs.Common.{◌≡◌, ℕ, zero, suc, ◌+◌, ◌<◌, ◌≤◌, Bool, true, false, cond, ◌&&◌, ltb, leb, List, [], ◌∷◌, ◌++◌, length, get_or, take, drop, set, ℤ, pos, negsuc, nat_abs, Some, None, Ok, Err, Option, Result, sym, refl, ap, ◌∙◌, arith}
+use Rattle.std.proofs.Common.{◌≡◌, ℕ, zero, suc, ◌+◌, ◌<◌, ◌≤◌, Bool, true, false, cond, ◌&&◌, ltb, leb, List, [], ◌∷◌, length, get_or, ℤ, pos, negsuc, nat_abs, Some, None, Ok, Err, Option, Result, IfOk, IfErr, sym, refl, ap, ◌∙◌, arith}
 use Rattle.std.proofs.lemmas.Bool.{leb-true, ltb-true, and_parts}
-use Rattle.std.proofs.lemmas.List.{at_drop_more, at_drop_all, take_more, take_more_set}
+use Rattle.std.proofs.lemmas.List.{same_lists, get_or_default}
 use Rattle.plancheck.specs.Numbers.{first_beyond, bounded, each_within, denominator_of}
 use Rattle.rows.specs.Limits.{largest}
 
@@ -22,27 +22,20 @@ none_bounded bound z e = by (leb (nat_abs z) bound) refl
     by true n = absurd (let h = e ∙ bounded_by bound z true n in let o : ◌≡◌ {A = ℕ} 0 1 = cc in omega arith)
     by false n = n
 
-beyond_at : (bound k : ℕ) (zs : List ℤ) (b : Bool) → k < length zs → leb (nat_abs (get_or zs k (pos 0))) bound ≡ b → first_beyond bound k (drop k zs) ≡ cond b (first_beyond bound (k + 1) (drop (k + 1) zs)) (Some k)
-beyond_at bound k zs b h e = at_drop_more (first_beyond bound k) zs k (pos 0) h ∙ ap (λ (t : Bool). cond t (first_beyond bound (k + 1) (drop (k + 1) zs)) (Some k)) e
+-- no number is
+none_beyond : (bound k : ℕ) (zs : List ℤ) → ((j : ℕ) → j < length zs → (t : ℤ) × (Some t ≡ bounded bound (get_or zs j (pos 0)))) → first_beyond bound k zs ≡ None
+none_beyond bound k [] h = refl
+none_beyond bound k (z ∷ zs) h =
+    let e = (some_bounded bound z (h 0 (omega arith)).0 (h 0 (omega arith)).1).0 in
+    rw e (none_beyond bound (k + 1) zs (λ j l. h (suc j) (omega arith)))
 
--- one number further
-pub beyond_more : (bound k : ℕ) (zs : List ℤ) (y : ℤ) → k < length zs → Some y ≡ bounded bound (get_or zs k (pos 0)) → first_beyond bound k (drop k zs) ≡ first_beyond bound (k + 1) (drop (k + 1) zs)
-beyond_more bound k zs y h e = beyond_at bound k zs true h (some_bounded bound (get_or zs k (pos 0)) y e).0
-
--- at the number
-pub beyond_here : (bound k : ℕ) (zs : List ℤ) → k < length zs → None ≡ bounded bound (get_or zs k (pos 0)) → first_beyond bound k (drop k zs) ≡ Some k
-beyond_here bound k zs h e = beyond_at bound k zs false h (none_bounded bound (get_or zs k (pos 0)) e)
-
--- past the last number
-pub beyond_done : (bound k : ℕ) (zs : List ℤ) → length zs ≤ k → first_beyond bound k (drop k zs) ≡ None
-beyond_done bound k zs h = at_drop_all (first_beyond bound k) zs k h
-
--- the number at k written
-pub placed : (bound k : ℕ) (zs out : List ℤ) (y : ℤ) → k < length zs → Some y ≡ bounded bound (get_or zs k (pos 0)) → length out ≡ length zs → take k out ≡ take k zs → take (k + 1) (set out k y) ≡ take (k + 1) zs
-placed bound k zs out y h e l t =
-    take_more_set out k y (omega arith)
-    ∙ (λ j. t j ++ (some_bounded bound (get_or zs k (pos 0)) y e).1 j ∷ [])
-    ∙ sym (take_more zs k (pos 0) h)
+-- the number at i is, and none before it
+some_beyond : (bound k i : ℕ) (zs : List ℤ) → i < length zs → None ≡ bounded bound (get_or zs i (pos 0)) → ((j : ℕ) → j < i → (t : ℤ) × (Some t ≡ bounded bound (get_or zs j (pos 0)))) → first_beyond bound k zs ≡ Some (k + i)
+some_beyond bound k i [] l n h = absurd (omega arith)
+some_beyond bound k zero (z ∷ zs) l n h = rw (none_bounded bound z n) (ap Some (let e : k ≡ k + 0 = omega arith in e))
+some_beyond bound k (suc i) (z ∷ zs) l n h =
+    let e = (some_bounded bound z (h 0 (omega arith)).0 (h 0 (omega arith)).1).0 in
+    rw e (some_beyond bound (k + 1) i zs (omega arith) n (λ j m. h (suc j) (omega arith)) ∙ ap Some (let e : k + 1 + i ≡ k + suc i = omega arith in e))
 
 -- what the search found, as a reply
 pub refused : (bound : ℕ) (zs : List ℤ) (k : ℕ) → first_beyond bound 0 zs ≡ Some k → Err k ≡ each_within bound zs
@@ -88,3 +81,17 @@ some_denominator (pos m) n e = by (ltb 0 m && leb m largest) refl
         (omega (arith, same, ltb-true 0 m parts.0), omega (arith, same, leb-true m largest parts.1))
     by false h = absurd (let q : ◌≡◌ {A = Option ℕ} (Some n) None = e ∙ ap (λ (t : Bool). cond t (Some m) None) h in let o : ◌≡◌ {A = ℕ} 0 1 = cc in omega arith)
 some_denominator (negsuc m) n e = absurd (let o : ◌≡◌ {A = ℕ} 0 1 = cc in omega arith)
+
+-- each number was narrowed by itself
+pub each_is : (bound n : ℕ) (zs : List ℤ) (r : Result (List ℤ) ℕ)
+    → length zs ≡ n
+    → IfOk r (λ all. (length all ≡ n) × ((k : ℕ) (d : ℤ) → k < n → Some (get_or all k d) ≡ bounded bound (get_or zs k (pos 0))))
+    → IfErr r (λ k. (k < n) × (None ≡ bounded bound (get_or zs k (pos 0))) × ((j : ℕ) → j < k → (t : ℤ) × (Some t ≡ bounded bound (get_or zs j (pos 0)))))
+    → r ≡ each_within bound zs
+each_is bound n zs (Err k) size ok err = refused bound zs k (some_beyond bound 0 k zs (omega (arith, size, err.0)) err.1 err.2 ∙ ap Some (let e : 0 + k ≡ k = omega arith in e))
+each_is bound n zs (Ok all) size ok err =
+    accepted bound zs all
+    (none_beyond bound 0 zs (λ j l. (get_or all j (pos 0), ok.1 j (pos 0) (omega (arith, size)))))
+    (same_lists all zs (ok.0 ∙ sym size) (λ k d l.
+    let e = (some_bounded bound (get_or zs k (pos 0)) (get_or all k d) (ok.1 k d (omega (arith, ok.0)))).1 in
+    e ∙ get_or_default zs k (pos 0) d (omega (arith, ok.0, size))))

@@ -1,5 +1,5 @@
 -- The lemmas that several proofs share.
 pub mod Beyond
+pub mod Mapped
 pub mod Places
-pub mod Complaining
 pub mod Adding

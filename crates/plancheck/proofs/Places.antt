@@ -1,10 +1,9 @@
 -- Rows by their places. Assumes nothing.
-use Rattle.std.proofs.Common.{◌≡◌, ℕ, zero, suc, ◌<◌, List, [], ◌∷◌, length, get_or, take, ℤ, sym, refl, ap, ◌∙◌, arith}
-use Rattle.std.proofs.lemmas.List.{length-map, length-take-le}
+use Rattle.std.proofs.Common.{◌≡◌, ℕ, zero, suc, ◌<◌, List, [], ◌∷◌, length, get_or, ℤ, refl, arith}
+use Rattle.std.proofs.lemmas.List.{length-map}
 use Rattle.rows.specs.Firsts.{FirstWithout}
 use Rattle.rows.specs.declared.row.Row.{Row}
-use Rattle.rows.specs.Rows.{Constraint, constraint, constraints, Meets, FirstUnmet}
-use Rattle.plans.specs.declared.list.RowList.{RowList}
+use Rattle.rows.specs.Rows.{constraint, constraints, Meets, FirstUnmet}
 use Rattle.plancheck.specs.Claims.{coefficients_at}
 
 -- the first that fails stands in the list
@@ -20,7 +19,3 @@ coefficients_there (r ∷ rows) (suc i) d h = coefficients_there rows i d (omega
 
 pub unmet_within : (ns : List ℤ) (d : ℕ) (rows : List Row) (i : ℕ) → FirstUnmet ns d (constraints rows) i → i < length rows
 unmet_within ns d rows i f = let h = first_within (Meets ns d) (constraints rows) i f in omega (arith, length-map rows constraint)
-
--- a list of rows is as long as what it says
-pub said_length : (list : RowList) (cs : List Constraint) → constraints (take list.len list.rows) ≡ cs → length cs ≡ list.len
-said_length list cs e = ap length (sym e) ∙ length-map (take list.len list.rows) constraint ∙ length-take-le list.len list.rows (omega (arith, list.short, list.places))

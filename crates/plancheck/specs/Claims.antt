@@ -1,5 +1,5 @@
 -- What is said of claimed answers. Assumes nothing.
-use Rattle.std.specs.Prelude.{◌≡◌, ℕ, zero, suc, ◌<◌, cond, List, [], ◌∷◌, length, take, ℤ, pos, Some, None, Ok, Err, Option, Result, ◌==◌}
+use Rattle.std.specs.Prelude.{◌≡◌, ℕ, zero, suc, ◌<◌, List, [], ◌∷◌, length, take, ℤ, pos, Some, None, Ok, Err, Option, Result}
 use Rattle.integers.specs.Vectors.{dot}
 use Rattle.integers.specs.Divisors.{IsGcdAll}
 use Rattle.rows.specs.Limits.{largest, faders}
@@ -8,16 +8,18 @@ use Rattle.rows.specs.Clashes.{Clash, column, total}
 use Rattle.rows.specs.Clashes.{Flawed as Wrong}
 use Rattle.rows.specs.declared.flaw.ClashFlaw.{ClashFlaw}
 use Rattle.rows.specs.declared.flaw.ClashFlaw.TheVariants.{TooManyRows, Negative, Column, Total}
-use Rattle.engine.specs.declared.refusal.Refusal.TheVariants.{NoPlan}
 use Rattle.plans.specs.Plans.{PlanView}
 use Rattle.plans.specs.Sounding.{sounding_rows}
-use Rattle.plantext.specs.declared.statement.Numbers.{Numbers}
+use Rattle.plantext.specs.declared.numbers.Numbers.{Numbers}
+use Rattle.plantext.specs.Padding.{padded}
 use Rattle.plancheck.specs.declared.complaint.Complaint.{Complaint}
-use Rattle.plancheck.specs.declared.complaint.Complaint.TheVariants.{Refused, Numerators, Numerator, Denominator, Weights, Weight}
+use Rattle.plancheck.specs.declared.complaint.Complaint.TheVariants.{Numerator, Denominator, Weight}
+use Rattle.plancheck.specs.declared.complaint.Counted.TheVariants.{Numerators, Weights}
 use Rattle.plancheck.specs.declared.verdict.PresetVerdict.{PresetVerdict}
 use Rattle.plancheck.specs.declared.verdict.PresetVerdict.TheVariants.{Holds, Unmet}
 use Rattle.plancheck.specs.declared.verdict.ClashVerdict.{ClashVerdict}
 use Rattle.plancheck.specs.declared.verdict.ClashVerdict.TheVariants.{Holds as Contradicts, Flawed}
+use Rattle.plancheck.specs.Widths.{in_width}
 use Rattle.plancheck.specs.Numbers.{first_beyond, denominator_of}
 
 -- the coefficients of the row at a place
@@ -64,23 +66,17 @@ abbrev pub weights_complaint : List ℤ → Option Complaint
 weights_complaint zs = weight_complaint (first_beyond largest 0 zs)
 
 abbrev pub preset_complaint : Numbers → ℤ → PlanView → Option Complaint
-preset_complaint ns d v =
-    cond (v.count == 0) (Some (Refused NoPlan))
-    (cond (ns.len == v.count) (terms_complaint (take faders ns.values) d)
-    (Some (Numerators (record { found = ns.len; wanted = v.count }))))
+preset_complaint ns d v = in_width Numerators v.count ns v.count (terms_complaint (take faders (padded ns)) d)
 
 -- what is replied to a claimed preset: a verdict on its levels, or why the line is bad
 abbrev pub PresetChecked : Numbers → ℤ → PlanView → Result PresetVerdict Complaint → Type 0
-PresetChecked ns d v (Ok verdict) = (ns.len ≡ v.count) × ((n : ℕ) × (d ≡ pos n) × (0 < n) × PresetJudged (take faders ns.values) n (sounding_rows v.rules) verdict)
+PresetChecked ns d v (Ok verdict) = (length ns ≡ v.count) × ((n : ℕ) × (d ≡ pos n) × (0 < n) × PresetJudged (take faders (padded ns)) n (sounding_rows v.rules) verdict)
 PresetChecked ns d v (Err e) = preset_complaint ns d v ≡ Some e
 
 abbrev pub clash_complaint : Numbers → PlanView → Option Complaint
-clash_complaint ns v =
-    cond (v.count == 0) (Some (Refused NoPlan))
-    (cond (ns.len == length (sounding_rows v.rules)) (weights_complaint ns.values)
-    (Some (Weights (record { found = ns.len; wanted = length (sounding_rows v.rules) }))))
+clash_complaint ns v = in_width Weights v.count ns (length (sounding_rows v.rules)) (weights_complaint (padded ns))
 
 -- what is replied to a claimed clash
 abbrev pub ClashChecked : Numbers → PlanView → Result ClashVerdict Complaint → Type 0
-ClashChecked ns v (Ok verdict) = (ns.len ≡ length (sounding_rows v.rules)) × ClashJudged ns.values (sounding_rows v.rules) verdict
+ClashChecked ns v (Ok verdict) = (length ns ≡ length (sounding_rows v.rules)) × ClashJudged (padded ns) (sounding_rows v.rules) verdict
 ClashChecked ns v (Err e) = clash_complaint ns v ≡ Some e

@@ -1,17 +1,20 @@
 -- What the statements that change a plan do. Assumes nothing.
-use Rattle.std.specs.Prelude.{◌≡◌, ℕ, cond, not, List, length, take, ℤ, pos, negsuc, Some, None, Ok, Err, Option, Result, ◌==◌}
+use Rattle.std.specs.Prelude.{◌≡◌, ℕ, not, List, length, take, ℤ, pos, negsuc, Some, None, Ok, Err, Option, Result}
 use Rattle.rows.specs.Limits.{faders, near}
 use Rattle.engine.specs.Interface.{Does, first_refusal, refused_if, unused_refusal}
 use Rattle.engine.specs.declared.refusal.Refusal.{Refusal}
-use Rattle.engine.specs.declared.refusal.Refusal.TheVariants.{BadCount, NoPlan, BadSide}
+use Rattle.engine.specs.declared.refusal.Refusal.TheVariants.{BadCount, BadSide}
 use Rattle.plans.specs.Ranges.{coefficient_range}
 use Rattle.plans.specs.Plans.{PlanView}
 use Rattle.plans.specs.Edits.{Opened, add_refusal, after_add}
-use Rattle.plantext.specs.declared.statement.Numbers.{Numbers}
-use Rattle.plantext.specs.declared.statement.Comparison.{Comparison}
-use Rattle.plantext.specs.declared.statement.Comparison.TheVariants.{AtMost, Below, Equal}
+use Rattle.plantext.specs.declared.numbers.Numbers.{Numbers}
+use Rattle.plantext.specs.Padding.{padded}
+use Rattle.rows.specs.declared.kind.Kind.{Kind}
+use Rattle.rows.specs.declared.kind.Kind.TheVariants.{AtMost, Below, Equal}
 use Rattle.plancheck.specs.declared.complaint.Complaint.{Complaint}
-use Rattle.plancheck.specs.declared.complaint.Complaint.TheVariants.{Refused, Coefficients}
+use Rattle.plancheck.specs.declared.complaint.Complaint.TheVariants.{Refused}
+use Rattle.plancheck.specs.declared.complaint.Counted.TheVariants.{Coefficients}
+use Rattle.plancheck.specs.Widths.{in_width}
 use Rattle.plancheck.specs.Numbers.{first_beyond}
 
 -- a desk with so many faders; no desk has a count below 0
@@ -20,7 +23,7 @@ Opens (pos n) v r w = Opened n v r w
 Opens (negsuc n) v r w = Does (Some BadCount) v v r w
 
 -- the number of a comparison's kind
-abbrev pub kind_number : Comparison → ℕ
+abbrev pub kind_number : Kind → ℕ
 kind_number AtMost = 0
 kind_number Below = 1
 kind_number Equal = 2
@@ -36,13 +39,10 @@ abbrev pub refused_by : Option Refusal → Option Complaint
 refused_by None = None
 refused_by (Some refusal) = Some (Refused refusal)
 
-abbrev pub rule_complaint : Numbers → Comparison → ℤ → PlanView → Option Complaint
-rule_complaint ns c s v =
-    cond (v.count == 0) (Some (Refused NoPlan))
-    (cond (ns.len == v.count) (refused_by (numbers_refusal (kind_number c) (take faders ns.values) s v))
-    (Some (Coefficients (record { found = ns.len; wanted = v.count }))))
+abbrev pub rule_complaint : Numbers → Kind → ℤ → PlanView → Option Complaint
+rule_complaint ns c s v = in_width Coefficients v.count ns v.count (refused_by (numbers_refusal (kind_number c) (take faders (padded ns)) s v))
 
 -- what is replied to a rule: its number, or why the line is bad
-abbrev pub RuleAdded : Numbers → Comparison → ℤ → PlanView → Result ℕ Complaint → PlanView → Type 0
-RuleAdded ns c s v (Ok n) w = (ns.len ≡ v.count) × (w ≡ after_add (kind_number c) (take faders ns.values) s v) × (n ≡ length w.rules)
+abbrev pub RuleAdded : Numbers → Kind → ℤ → PlanView → Result ℕ Complaint → PlanView → Type 0
+RuleAdded ns c s v (Ok n) w = (length ns ≡ v.count) × (w ≡ after_add (kind_number c) (take faders (padded ns)) s v) × (n ≡ length w.rules)
 RuleAdded ns c s v (Err e) w = (rule_complaint ns c s v ≡ Some e) × (w ≡ v)

@@ -2,14 +2,15 @@
 use Rattle.std.specs.Prelude.{◌≡◌, ℤ, pos, Ok, Err, Result}
 use Rattle.plans.specs.Plans.{PlanView}
 use Rattle.plans.specs.Edits.{after_open}
-use Rattle.plantext.specs.declared.statement.Comparison.{Comparison}
-use Rattle.plantext.specs.declared.statement.Numbers.{Numbers}
-use Rattle.plantext.specs.declared.statement.Problem.{Problem}
+use Rattle.rows.specs.declared.kind.Kind.{Kind}
+use Rattle.plantext.specs.declared.numbers.Numbers.{Numbers}
+use Rattle.plantext.specs.declared.problem.Problem.{Problem}
 use Rattle.plantext.specs.declared.statement.Statement.{Statement}
 use Rattle.plantext.specs.declared.statement.Statement.TheVariants.{Blank as Nothing, Faders, Rule as RuleIs, Preset as PresetIs, Clash as ClashIs}
+use Rattle.plancheck.specs.declared.complaint.Complaint.{Complaint}
 use Rattle.plancheck.specs.declared.complaint.Complaint.TheVariants.{Unread}
 use Rattle.plancheck.specs.declared.outcome.Outcome.{Outcome}
-use Rattle.plancheck.specs.declared.outcome.Outcome.TheVariants.{Blank, Desk, Rule, Preset, Clash, Bad}
+use Rattle.plancheck.specs.declared.outcome.Outcome.TheVariants.{Blank, Desk, Rule, Preset, Clash}
 use Rattle.plancheck.specs.Edits.{RuleAdded}
 use Rattle.plancheck.specs.Claims.{PresetChecked, ClashChecked}
 
@@ -17,12 +18,12 @@ use Rattle.plancheck.specs.Claims.{PresetChecked, ClashChecked}
 abbrev pub Told : Statement → PlanView → Outcome → PlanView → Type 0
 Told s v Blank w = (s ≡ Nothing) × (w ≡ v)
 Told s v (Desk n) w = (s ≡ Faders (pos n)) × (w ≡ after_open n)
-Told s v (Rule n) w = (ns : Numbers) × (c : Comparison) × (z : ℤ) × (s ≡ RuleIs ns c z) × RuleAdded ns c z v (Ok n) w
+Told s v (Rule n) w = (ns : Numbers) × (c : Kind) × (z : ℤ) × (s ≡ RuleIs ns c z) × RuleAdded ns c z v (Ok n) w
 Told s v (Preset ns d verdict) w = (s ≡ PresetIs ns d) × (w ≡ v) × PresetChecked ns d v (Ok verdict)
 Told s v (Clash ns verdict) w = (s ≡ ClashIs ns) × (w ≡ v) × ClashChecked ns v (Ok verdict)
-Told s v (Bad e) w = w ≡ v
 
--- the same of a line, which says a statement or is none
-abbrev pub Came : Result Statement Problem → PlanView → Outcome → PlanView → Type 0
-Came (Ok s) v o w = Told s v o w
-Came (Err p) v o w = (o ≡ Bad (Unread p)) × (w ≡ v)
+-- the same of a line, which says a statement or is none; a bad one leaves the plan
+abbrev pub Came : Result Statement Problem → PlanView → Result Outcome Complaint → PlanView → Type 0
+Came (Ok s) v (Ok o) w = Told s v o w
+Came (Ok s) v (Err e) w = w ≡ v
+Came (Err p) v r w = (r ≡ Err (Unread p)) × (w ≡ v)

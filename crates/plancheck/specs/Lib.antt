@@ -1,5 +1,6 @@
 -- The definitions that contracts cite.
 pub mod Numbers
+pub mod Widths
 pub mod Claims
 pub mod Edits
 pub mod Follows

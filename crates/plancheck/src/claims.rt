@@ -3,12 +3,13 @@ ghost use Rattle.std.specs.Prelude.{◌≡◌, take, pos, Some, MatchResult};
 ghost use Rattle.rows.specs.Limits.{faders};
 ghost use Rattle.rows.specs.Rows.{constraints};
 ghost use Rattle.plans.specs.Plans.{plan_view};
+ghost use Rattle.plantext.specs.Padding.{padded};
 ghost use Rattle.plancheck.specs.Claims.{terms_complaint, weights_complaint, PresetJudged, ClashJudged, PresetChecked, ClashChecked};
 
-use crate::complaint::{Complaint, Width};
-use crate::numbers::{denominator_of, first_six, numerators, weights};
+use crate::complaint::{Complaint, Counted};
+use crate::numbers::{denominator_of, first_six, narrow_each};
 use crate::verdict::{ClashVerdict, PresetVerdict};
-use engine::refusal::Refusal;
+use crate::width::check_width;
 use plans::Plan;
 use plantext::Numbers;
 use rows::clashes::{clash_flaw, column, total};
@@ -19,16 +20,11 @@ use rows::weights::Weights;
 
 // The preset that the numbers say.
 fn preset_of(numbers: &Numbers, denominator: i64) -> Result<Preset, Complaint>
-    ensures { MatchResult result (λ p. (p.numerators ≡ take faders numbers.now.values) × (pos p.denominator ≡ denominator)) (λ e. terms_complaint (take faders numbers.now.values) denominator ≡ Some e) }
+    ensures { MatchResult result (λ p. (p.numerators ≡ take faders (padded numbers.now)) × (pos p.denominator ≡ denominator)) (λ e. terms_complaint (take faders (padded numbers.now)) denominator ≡ Some e) }
 {
     let values = first_six(numbers);
-    let numerators = match numerators(&values) {
-        Ok(numerators) => numerators,
-        Err(k) => return Err(Complaint::Numerator(k)),
-    };
-    let Some(denominator) = denominator_of(denominator) else {
-        return Err(Complaint::Denominator);
-    };
+    let numerators = narrow_each(&values).map_err(Complaint::Numerator)?;
+    let denominator = denominator_of(denominator).ok_or(Complaint::Denominator)?;
     Ok(Preset {
         numerators,
         denominator,
@@ -52,31 +48,17 @@ pub fn check_preset(
 ) -> Result<PresetVerdict, Complaint>
     ensures { PresetChecked numbers.now denominator (plan_view plan.now) result }
 {
-    if plan.count == 0 {
-        return Err(Complaint::Refused(Refusal::NoPlan));
-    }
-    let wanted = plan.count as usize;
-    if numbers.len != wanted {
-        let found = numbers.len;
-        return Err(Complaint::Numerators(Width { found, wanted }));
-    }
-    match preset_of(numbers, denominator) {
-        Ok(preset) => {
-            let list = plan.sounding();
-            Ok(preset_verdict(&preset, &list.rows[0..list.len]))
-        }
-        Err(complaint) => Err(complaint),
-    }
+    check_width(plan, numbers, Counted::Numerators, plan.count as usize)?;
+    let preset = preset_of(numbers, denominator)?;
+    let list = plan.sounding();
+    Ok(preset_verdict(&preset, &list.rows[..list.len]))
 }
 
 // The weights that the numbers say.
 fn weights_of(numbers: &Numbers) -> Result<Weights, Complaint>
-    ensures { MatchResult result (λ w. w.values ≡ numbers.now.values) (λ e. weights_complaint numbers.now.values ≡ Some e) }
+    ensures { MatchResult result (λ w. w.values ≡ padded numbers.now) (λ e. weights_complaint (padded numbers.now) ≡ Some e) }
 {
-    let values = match weights(&numbers.values) {
-        Ok(values) => values,
-        Err(i) => return Err(Complaint::Weight(i)),
-    };
+    let values = narrow_each(numbers.places()).map_err(Complaint::Weight)?;
     Ok(Weights { values })
 }
 
@@ -97,17 +79,9 @@ fn clash_verdict(weights: &Weights, rows: &[Row]) -> ClashVerdict
 pub fn check_clash(plan: &Plan, numbers: &Numbers) -> Result<ClashVerdict, Complaint>
     ensures { ClashChecked numbers.now (plan_view plan.now) result }
 {
-    if plan.count == 0 {
-        return Err(Complaint::Refused(Refusal::NoPlan));
-    }
     let list = plan.sounding();
     let wanted = list.len;
-    if numbers.len != wanted {
-        let found = numbers.len;
-        return Err(Complaint::Weights(Width { found, wanted }));
-    }
-    match weights_of(numbers) {
-        Ok(weights) => Ok(clash_verdict(&weights, &list.rows[0..wanted])),
-        Err(complaint) => Err(complaint),
-    }
+    check_width(plan, numbers, Counted::Weights, wanted)?;
+    let weights = weights_of(numbers)?;
+    Ok(clash_verdict(&weights, &list.rows[..wanted]))
 }

@@ -5,48 +5,37 @@ ghost use Rattle.plantext.specs.Grammar.{statement_of};
 ghost use Rattle.plancheck.specs.Follows.{Told, Came};
 
 use crate::claims::{check_clash, check_preset};
-use crate::complaint::Complaint;
 use crate::edits::{add_rule, open_desk};
-use crate::outcome::Outcome;
+use crate::outcome::{Followed, Outcome};
 use plans::Plan;
 use plantext::{Statement, read_line};
 
 // What a statement comes to; a bad one leaves the plan.
-fn follow_statement(plan: &mut Plan, statement: Statement) -> Result<Outcome, Complaint>
+fn follow_statement(plan: &mut Plan, statement: Statement) -> Followed
     ensures { MatchResult result (λ o. Told statement (plan_view plan.old) o (plan_view plan.new)) (λ _. plan_view plan.new ≡ plan_view plan.old) }
 {
     match statement {
         Statement::Blank => Ok(Outcome::Blank),
-        Statement::Faders(faders) => match open_desk(plan, faders) {
-            Ok(count) => Ok(Outcome::Desk(count)),
-            Err(refusal) => Err(Complaint::Refused(refusal)),
-        },
-        Statement::Rule(numbers, comparison, side) => match add_rule(
-            plan, &numbers, comparison, side,
-        ) {
-            Ok(number) => Ok(Outcome::Rule(number)),
-            Err(complaint) => Err(complaint),
-        },
-        Statement::Preset(numbers, denominator) => match check_preset(plan, &numbers, denominator) {
-            Ok(verdict) => Ok(Outcome::Preset(numbers, denominator, verdict)),
-            Err(complaint) => Err(complaint),
-        },
-        Statement::Clash(numbers) => match check_clash(plan, &numbers) {
-            Ok(verdict) => Ok(Outcome::Clash(numbers, verdict)),
-            Err(complaint) => Err(complaint),
-        },
+        Statement::Faders(faders) => Ok(Outcome::Desk(open_desk(plan, faders)?)),
+        Statement::Rule(numbers, kind, side) => {
+            let number = add_rule(plan, &numbers, kind, side)?;
+            Ok(Outcome::Rule(number))
+        }
+        Statement::Preset(numbers, denominator) => {
+            let verdict = check_preset(plan, &numbers, denominator)?;
+            Ok(Outcome::Preset(numbers, denominator, verdict))
+        }
+        Statement::Clash(numbers) => {
+            let verdict = check_clash(plan, &numbers)?;
+            Ok(Outcome::Clash(numbers, verdict))
+        }
     }
 }
 
 // What a line comes to.
-pub fn follow(plan: &mut Plan, line: &[u8]) -> Outcome
+pub fn follow(plan: &mut Plan, line: &[u8]) -> Followed
     ensures { Came (statement_of line.now) (plan_view plan.old) result (plan_view plan.new) }
 {
-    match read_line(line) {
-        Ok(statement) => match follow_statement(plan, statement) {
-            Ok(outcome) => outcome,
-            Err(complaint) => Outcome::Bad(complaint),
-        },
-        Err(problem) => Outcome::Bad(Complaint::Unread(problem)),
-    }
+    let statement = read_line(line)?;
+    follow_statement(plan, statement)
 }

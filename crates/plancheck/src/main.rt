@@ -12,12 +12,14 @@ mod tally;
 mod tests;
 mod text;
 mod verdict;
+mod width;
 mod words;
 
-use anyhow::anyhow;
+use anyhow::ensure;
 use follow::follow;
+use outcome::is_blank;
 use plans::Plan;
-use plantext::first_line;
+use plantext::Lines;
 use std::io;
 use std::io::Read;
 use tally::Tally;
@@ -27,20 +29,16 @@ use words::Said;
 fn check_lines(rt: &HostRuntime, text: &[u8]) -> io::Result<Tally> {
     let mut plan = Plan::new();
     let mut tally = Tally::new();
-    let mut number = 0usize;
-    let mut rest = text;
-    while let Some((line, after)) = first_line(rest) {
-        number += 1;
-        let outcome = follow(&mut plan, line);
-        tally.count(&outcome);
-        if !outcome.is_blank() {
+    for (place, line) in Lines(text).enumerate() {
+        let followed = follow(&mut plan, line);
+        tally.count(&followed);
+        if !is_blank(&followed) {
             rt.println(Said {
-                number,
+                number: place + 1,
                 plan,
-                outcome,
+                followed,
             })?;
         }
-        rest = after;
     }
     Ok(tally)
 }
@@ -50,9 +48,6 @@ fn main(rt: HostRuntime) -> anyhow::Result<()> {
     rt.stdin().read_to_end(&mut text)?;
     let tally = check_lines(&rt, text.as_slice())?;
     rt.println(tally)?;
-    if tally.is_clean() {
-        Ok(())
-    } else {
-        Err(anyhow!("not all is well"))
-    }
+    ensure!(tally.is_clean(), "not all is well");
+    Ok(())
 }

@@ -1,19 +1,38 @@
 // The numbers of a statement in the types of a plan and of answers: each is held against its bound. Assumes nothing.
-ghost use Rattle.std.specs.Prelude.{◌≡◌, length, take, None};
+ghost use Rattle.std.specs.Prelude.{◌≡◌, ℕ, ◌<◌, length, pos, take, Some, None, IfOk, IfErr, slice_index_or};
 ghost use Rattle.rows.specs.Limits.{largest, faders};
 ghost use Rattle.plans.specs.Ranges.{coefficient_range};
-ghost use Rattle.plancheck.specs.Numbers.{bounded, first_beyond, each_within, denominator_of as whole_denominator};
+ghost use Rattle.plantext.specs.Padding.{padded};
+ghost use Rattle.plancheck.specs.Numbers.{bounded, each_within, denominator_of as whole_denominator};
 
 use plans::COEFFICIENT;
 use plantext::Numbers;
-use rows::bounds::{FADERS, G, ROWS, narrow};
+use rows::bounds::{FADERS, G, narrow};
 
 // The places of a row or of a preset.
 pub fn first_six(numbers: &Numbers) -> [i64; FADERS]
-    ensures { result ≡ take faders numbers.now.values }
+    ensures { result ≡ take faders (padded numbers.now) }
 {
-    let v = &numbers.values;
-    [v[0], v[1], v[2], v[3], v[4], v[5]]
+    *numbers.places().first_chunk::<FADERS>().unwrap()
+}
+
+// Each of the numbers in another type, or the place of the first that has no such value.
+fn each<T: Copy + Default, const N: usize, F: Fn(i64) -> Option<T>>(
+    values: &[i64; N],
+    narrow: F,
+) -> Result<[T; N], usize>
+    requires { F.IsAlwaysCallable narrow }
+    ensures ok { IfOk result (λ all. (length all ≡ N) × ((k : ℕ) (d : T) → k < N → F.post narrow (slice_index_or values.now k (pos 0)) (Some (slice_index_or all k d)))) }
+    ensures err { IfErr result (λ k. (k < N) × F.post narrow (slice_index_or values.now k (pos 0)) None × ((j : ℕ) → j < k → (t : T) × F.post narrow (slice_index_or values.now j (pos 0)) (Some t))) }
+{
+    let mut all = [T::default(); N];
+    for (k, z) in values.iter().enumerate() {
+        match narrow(*z) {
+            Some(value) => all[k] = value,
+            None => return Err(k),
+        }
+    }
+    Ok(all)
 }
 
 // A coefficient; none where it is out of range.
@@ -30,51 +49,14 @@ fn coefficient(z: i64) -> Option<i16>
 pub fn coefficients(values: &[i64; FADERS]) -> Result<[i16; FADERS], u8>
     ensures { result ≡ each_within coefficient_range values.now }
 {
-    let mut all = [0; FADERS];
-    for k in 0..FADERS {
-        match coefficient(values[k]) {
-            Some(a) => all[k] = a,
-            None => return Err(k as u8),
-        }
-    }
-    Ok(all)
+    each(values, coefficient).map_err(|k| k as u8)
 }
 
-// Writes each of the numbers; the place of the first that is beyond G, if there is one.
-fn narrow_each(values: &[i64], out: &mut [i32]) -> Option<usize>
-    requires { length values.now ≡ length out.old }
-    ensures test { result ≡ first_beyond largest 0 values.now }
-    ensures value { result ≡ None → out.new ≡ values.now }
-{
-    for i in 0..out.len() {
-        match narrow(values[i]) {
-            Some(z) => out[i] = z,
-            None => return Some(i),
-        }
-    }
-    None
-}
-
-// The numerators of a preset, or the place of the first that is out of range.
-pub fn numerators(values: &[i64; FADERS]) -> Result<[i32; FADERS], usize>
+// The numerators of a preset or the weights of a clash, or the place of the first that is out of range.
+pub fn narrow_each<const N: usize>(values: &[i64; N]) -> Result<[i32; N], usize>
     ensures { result ≡ each_within largest values.now }
 {
-    let mut out = [0; FADERS];
-    match narrow_each(values, &mut out) {
-        Some(k) => Err(k),
-        None => Ok(out),
-    }
-}
-
-// The weights of a clash, or the place of the first that is out of range.
-pub fn weights(values: &[i64; ROWS]) -> Result<[i32; ROWS], usize>
-    ensures { result ≡ each_within largest values.now }
-{
-    let mut out = [0; ROWS];
-    match narrow_each(values, &mut out) {
-        Some(i) => Err(i),
-        None => Ok(out),
-    }
+    each(values, narrow)
 }
 
 // A denominator, from 1 to G; none where it is out of range.

@@ -6,7 +6,7 @@ use crate::complaint::Complaint;
 use crate::verdict::{ClashVerdict, PresetVerdict};
 use plantext::Numbers;
 
-#[derive(Clone, Copy)]
+#[derive(Clone, Copy, PartialEq, Eq, Debug)]
 pub enum Outcome {
     // it says nothing
     Blank,
@@ -18,15 +18,14 @@ pub enum Outcome {
     Preset(Numbers, i64, PresetVerdict),
     // a clash by its weights
     Clash(Numbers, ClashVerdict),
-    // it is bad, and left the plan as it was
-    Bad(Complaint),
 }
 
-impl Outcome {
-    // Whether nothing is to be said of the line.
-    pub fn is_blank(&self) -> bool
-        ensures { result ≡ is_blank self.now }
-    {
-        matches!(self, Outcome::Blank)
-    }
+// What a line comes to, or why it is bad; a bad line leaves the plan as it was.
+pub type Followed = Result<Outcome, Complaint>;
+
+// Whether nothing is to be said of the line.
+pub fn is_blank(followed: &Followed) -> bool
+    ensures { result ≡ is_blank followed.now }
+{
+    matches!(followed, Ok(Outcome::Blank))
 }

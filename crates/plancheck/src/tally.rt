@@ -2,11 +2,11 @@
 ghost use Rattle.std.specs.Prelude.{◌≡◌, ◌&&◌, ◌==◌};
 ghost use Rattle.plancheck.specs.Tallies.{tallied};
 
-use crate::outcome::Outcome;
+use crate::outcome::{Followed, Outcome};
 use crate::verdict::{ClashVerdict, PresetVerdict};
 use std::fmt;
 
-#[derive(Clone, Copy)]
+#[derive(Clone, Copy, PartialEq, Eq, Debug, Default)]
 pub struct Tally {
     pub holding: usize,
     pub failing: usize,
@@ -17,28 +17,24 @@ impl Tally {
     pub fn new() -> Tally
         ensures { result ≡ record { holding = 0; failing = 0; bad = 0 } }
     {
-        Tally {
-            holding: 0,
-            failing: 0,
-            bad: 0,
-        }
+        Tally::default()
     }
 
     // Counts one line.
-    pub fn count(&mut self, outcome: &Outcome)
-        ensures { self.new ≡ tallied outcome.now self.old }
+    pub fn count(&mut self, followed: &Followed)
+        ensures { self.new ≡ tallied followed.now self.old }
     {
-        match outcome {
-            Outcome::Blank | Outcome::Desk(_) | Outcome::Rule(_) => {}
-            Outcome::Preset(_, _, PresetVerdict::Holds(_))
-            | Outcome::Clash(_, ClashVerdict::Holds(_)) => {
-                self.holding = self.holding.saturating_add(1);
-            }
-            Outcome::Preset(_, _, PresetVerdict::Unmet(_, _))
-            | Outcome::Clash(_, ClashVerdict::Flawed(_, _)) => {
-                self.failing = self.failing.saturating_add(1);
-            }
-            Outcome::Bad(_) => self.bad = self.bad.saturating_add(1),
+        match followed {
+            Ok(Outcome::Blank | Outcome::Desk(_) | Outcome::Rule(_)) => {}
+            Ok(
+                Outcome::Preset(_, _, PresetVerdict::Holds(_))
+                | Outcome::Clash(_, ClashVerdict::Holds(_)),
+            ) => self.holding = self.holding.saturating_add(1),
+            Ok(
+                Outcome::Preset(_, _, PresetVerdict::Unmet(_, _))
+                | Outcome::Clash(_, ClashVerdict::Flawed(_, _)),
+            ) => self.failing = self.failing.saturating_add(1),
+            Err(_) => self.bad = self.bad.saturating_add(1),
         }
     }
 

@@ -7,11 +7,11 @@ use std::test::Fail;
 
 // Whether a line is followed by these words.
 fn says(heap: Global, plan: &mut Plan, line: &[u8], words: &str) -> Result<bool, AllocError> {
-    let outcome = follow(plan, line);
+    let followed = follow(plan, line);
     let said = Said {
         number: 7,
         plan: *plan,
-        outcome,
+        followed,
     };
     let text = said.to_string(heap)?;
     Ok(text.as_str() == words)

@@ -1,29 +1,22 @@
-// The text of numbers and of rules, in the form that a plan is written in. Assumes nothing.
+// The text of places, numbers and rules, in the form that a plan is written in. Assumes nothing.
+ghost use Rattle.std.specs.Prelude.{◌≡◌};
+ghost use Rattle.plancheck.specs.Tallies.{more};
+
+use plans::Plan;
 use plantext::Numbers;
-use rows::bounds::FADERS;
 use rows::kind::Kind;
-use rows::row::Row;
 use std::fmt;
 
-// The numbers of a statement, each followed by a space.
-#[derive(Clone, Copy)]
-pub struct Listed<'a>(pub &'a Numbers);
-
-impl fmt::Display for Listed<'_> {
-    fn fmt<W: fmt::Write>(&self, f: &mut fmt::Formatter<W>) -> fmt::Result {
-        let numbers = self.0;
-        for z in numbers.values.iter().take(numbers.len) {
-            write!(f, "{z} ")?;
-        }
-        Ok(())
-    }
+// People count from 1.
+pub fn from_one(place: usize) -> usize
+    ensures { result ≡ more place }
+{
+    place.saturating_add(1)
 }
 
-// The row of a rule, for a desk with so many faders.
-#[derive(Clone, Copy)]
-pub struct RuleText<'a> {
-    pub count: u8,
-    pub row: &'a Row,
+// The end of a word for so many things.
+pub fn ending(n: usize) -> &'static str {
+    if n == 1 { "" } else { "s" }
 }
 
 // The sign of a comparison.
@@ -35,15 +28,35 @@ fn sign(kind: Kind) -> &'static str {
     }
 }
 
-impl fmt::Display for RuleText<'_> {
+// The numbers of a statement, each followed by a space.
+#[derive(Clone, Copy)]
+pub struct Listed<'a>(pub &'a Numbers);
+
+impl fmt::Display for Listed<'_> {
     fn fmt<W: fmt::Write>(&self, f: &mut fmt::Formatter<W>) -> fmt::Result {
-        let row = self.row;
-        for k in 0..FADERS.min(self.count as usize) {
-            let a = row.coefficients[k];
+        for z in self.0.as_slice() {
+            write!(f, "{z} ")?;
+        }
+        Ok(())
+    }
+}
+
+// The rule of a plan at a place, from 0; nothing where no rule has it.
+#[derive(Clone, Copy)]
+pub struct RuleAt<'a> {
+    pub plan: &'a Plan,
+    pub place: usize,
+}
+
+impl fmt::Display for RuleAt<'_> {
+    fn fmt<W: fmt::Write>(&self, f: &mut fmt::Formatter<W>) -> fmt::Result {
+        let Some(rule) = self.plan.rules.get(self.place) else {
+            return Ok(());
+        };
+        let row = &rule.row;
+        for a in row.coefficients.iter().take(self.plan.count as usize) {
             write!(f, "{a} ")?;
         }
-        let sign = sign(row.kind);
-        let side = row.side;
-        write!(f, "{sign} {side}")
+        write!(f, "{} {}", sign(row.kind), row.side)
     }
 }

@@ -1,14 +1,13 @@
 -- The digits of a number, its value and its sign. Assumes nothing.
-use Rattle.std.proofs.Common.{◌≡◌, ℕ, ◌+◌, ◌-◌, ◌*◌, ◌<◌, ◌≤◌, true, false, List, [], ◌∷◌, length, get_or, take, drop, pos, arith, length-take}
+use Rattle.std.proofs.Common.{◌≡◌, ℕ, ◌+◌, ◌-◌, ◌*◌, ◌<◌, ◌≤◌, Bool, true, ◌&&◌, List, [], ◌∷◌, length, get_or, take, refl, ap, arith, length-take}
 use Rattle.std.proofs.lemmas.Int.Digits.{digits_value_more, digits_more}
-use Rattle.std.proofs.lemmas.List.{drop_more, take_rest}
 use Rattle.std.proofs.lemmas.Str.Parse.{IsNumeralModel, numerals_by_value, tells_all_ascii_digits, tells_digits, digit_at, digits_value_short}
 use Rattle.std.proofs.lemmas.Str.{digit_value_digit}
 use Rattle.std.specs.Str.Parse.{digits_value, AllDigits}
 use Rattle.std.specs.Int.{IsInRange}
 use Rattle.std.specs.Char.{is_ascii_digit}
+use Rattle.std.specs.List.{list_all}
 use Rattle.std.specs.Str.{all_ascii_digits}
-use Rattle.plantext.specs.Spelling.{digits_word, minus, number_word}
 
 pub own : IsNumeralModel (λ ds. all_ascii_digits ds ≡ true) (digits_value 10)
 own = numerals_by_value _ tells_all_ascii_digits
@@ -30,18 +29,7 @@ digits_next ds i all h so =
     let d = digit_value_digit (get_or ds i 0) b in
     digits_more 10 ds i h so (omega arith)
 
--- whether all bytes from i on are digits, one byte further
-pub all_digits_on : (bs : List ℕ) (i : ℕ) → i < length bs → is_ascii_digit (get_or bs i 0) ≡ true → all_ascii_digits (drop (i + 1) bs) ≡ all_ascii_digits (drop i bs)
-all_digits_on bs i h d = rw (drop_more bs i 0 h, d)
-
-pub all_digits_not : (bs : List ℕ) (i : ℕ) → i < length bs → is_ascii_digit (get_or bs i 0) ≡ false → all_ascii_digits (drop i bs) ≡ false
-all_digits_not bs i h d = rw (drop_more bs i 0 h, d)
-
--- a number after its sign, as a slice pattern has the rest of the bytes
-pub number_minus : (bs : List ℕ) → 0 < length bs → get_or bs 0 0 ≡ 45 → digits_word minus (take (length bs - 1) (drop 1 bs)) ≡ number_word bs
-number_minus [] some is = absurd (omega arith)
-number_minus (b ∷ bs) some is = rw (take_rest (b ∷ bs) 1, is)
-
-pub number_plus : (bs : List ℕ) → 0 < length bs → get_or bs 0 0 ≡ 43 → digits_word pos (take (length bs - 1) (drop 1 bs)) ≡ number_word bs
-number_plus [] some is = absurd (omega arith)
-number_plus (b ∷ bs) some is = rw (take_rest (b ∷ bs) 1, is)
+-- the test of each byte
+pub all_digits_is : (ds : List ℕ) → list_all is_ascii_digit ds ≡ all_ascii_digits ds
+all_digits_is [] = refl
+all_digits_is (d ∷ ds) = ap (λ (t : Bool). is_ascii_digit d && t) (all_digits_is ds)

@@ -1,20 +1,15 @@
 -- The text of a statement, and that a statement is what its own text says. Assumes nothing.
-use Rattle.std.specs.Prelude.{◌≡◌, ℕ, ◌-◌, ◌<◌, ◌≤◌, List, [], ◌∷◌, ◌++◌, map, length, take, drop, replicate, ℤ, pos, Ok, codes, unsigned_abs}
+use Rattle.std.specs.Prelude.{◌≡◌, ℕ, ◌<◌, ◌≤◌, List, [], ◌∷◌, ◌++◌, map, length, ℤ, Ok, codes, unsigned_abs}
 use Rattle.std.specs.Fmt.{signed_decimal}
 use Rattle.std.specs.List.{AllByRecursion}
 use Rattle.plantext.specs.Grammar.{statement_of}
-use Rattle.plantext.specs.declared.statement.Comparison.{Comparison}
-use Rattle.plantext.specs.declared.statement.Comparison.TheVariants.{AtMost, Below, Equal}
-use Rattle.plantext.specs.declared.statement.Numbers.{Numbers}
+use Rattle.rows.specs.declared.kind.Kind.{Kind}
+use Rattle.rows.specs.declared.kind.Kind.TheVariants.{AtMost, Below, Equal}
 use Rattle.plantext.specs.declared.statement.Statement.{Statement}
 use Rattle.plantext.specs.declared.statement.Statement.TheVariants.{Blank, Faders, Rule, Preset, Clash}
 
--- the numbers that a statement holds
-abbrev pub listed : Numbers → List ℤ
-listed ns = take ns.len ns.values
-
 -- the word of a comparison
-abbrev pub mark : Comparison → List ℕ
+abbrev pub mark : Kind → List ℕ
 mark AtMost = codes "<="
 mark Below = codes "<"
 mark Equal = codes "="
@@ -23,9 +18,9 @@ mark Equal = codes "="
 abbrev pub spelt : Statement → List (List ℕ)
 spelt Blank = []
 spelt (Faders n) = codes "faders" ∷ signed_decimal n ∷ []
-spelt (Rule ns c side) = map signed_decimal (listed ns) ++ (mark c ∷ signed_decimal side ∷ [])
-spelt (Preset ns d) = codes "preset" ∷ (map signed_decimal (listed ns) ++ (codes "/" ∷ signed_decimal d ∷ []))
-spelt (Clash ns) = codes "clash" ∷ map signed_decimal (listed ns)
+spelt (Rule ns c side) = map signed_decimal ns ++ (mark c ∷ signed_decimal side ∷ [])
+spelt (Preset ns d) = codes "preset" ∷ (map signed_decimal ns ++ (codes "/" ∷ signed_decimal d ∷ []))
+spelt (Clash ns) = codes "clash" ∷ map signed_decimal ns
 
 -- words with one space between each two
 abbrev pub spaced : List (List ℕ) → List ℕ
@@ -41,12 +36,10 @@ written s = spaced (spelt s)
 abbrev pub Small : ℤ → Type 0
 Small z = unsigned_abs z < 1000000000000
 
--- at most sixteen such numbers, and zeros after them
-pub record Proper (ns : Numbers) : Type 0 where
-  pub room : ns.len ≤ 16
-  pub size : length ns.values ≡ 16
-  pub small : AllByRecursion Small (listed ns)
-  pub zeros : drop ns.len ns.values ≡ replicate (16 - ns.len) (pos 0)
+-- at most sixteen such numbers
+pub record Proper (ns : List ℤ) : Type 0 where
+  pub room : length ns ≤ 16
+  pub small : AllByRecursion Small ns
 
 -- all numbers of the statement are small
 abbrev pub Sound : Statement → Type 0

@@ -1,7 +1,7 @@
 // Cuts a text into lines, and a line into words. Assumes nothing.
-ghost use Rattle.std.specs.Prelude.{◌≡◌, ◌<◌, ◌≤◌, [], ◌∷◌, length, IfSome, MatchOption};
-ghost use Rattle.std.specs.List.{prefix_len};
-ghost use Rattle.plantext.specs.Cuts.{white, dark, before_comment, words, unbroken, lines};
+ghost use Rattle.std.specs.Prelude.{◌≡◌, ◌<◌, [], ◌∷◌, length, IfSome, MatchOption};
+ghost use Rattle.std.specs.Iterator.{YieldsFirstRef, item_count};
+ghost use Rattle.plantext.specs.Cuts.{white, before_comment, words, lines};
 
 // Starts a comment, which goes to the end of its line.
 const COMMENT: u8 = b'#';
@@ -19,36 +19,11 @@ fn is_white(b: u8) -> bool
 pub fn uncommented(line: &[u8]) -> &[u8]
     ensures { result.now ≡ before_comment line.now }
 {
-    for (i, b) in line.iter().enumerate() {
-        if *b == COMMENT {
-            return &line[0..i];
-        }
-    }
-    line
-}
-
-// How many white bytes a text begins with.
-fn white_len(text: &[u8]) -> usize
-    ensures within { result ≤ length text.now }
-    ensures run { result ≡ prefix_len white text.now }
-{
-    let mut n = 0;
-    while n < text.len() && is_white(text[n]) {
-        n += 1;
-    }
-    n
-}
-
-// How many bytes of a word a text begins with.
-fn word_len(text: &[u8]) -> usize
-    ensures within { result ≤ length text.now }
-    ensures run { result ≡ prefix_len dark text.now }
-{
-    let mut n = 0;
-    while n < text.len() && !is_white(text[n]) {
-        n += 1;
-    }
-    n
+    let end = line
+        .iter()
+        .position(|b| *b == COMMENT)
+        .unwrap_or(line.len());
+    &line[..end]
 }
 
 // The first word of a text, and the text after it.
@@ -56,23 +31,10 @@ pub fn first_word(text: &[u8]) -> Option<(&[u8], &[u8])>
     ensures cut { MatchOption result (words text.now ≡ []) (λ p. words text.now ≡ p.0.now ∷ words p.1.now) }
     ensures shorter { IfSome result (λ p. length p.1.now < length text.now) }
 {
-    let (_, text) = text.split_at(white_len(text));
-    if text.is_empty() {
-        return None;
-    }
-    Some(text.split_at(word_len(text)))
-}
-
-// How many bytes a text has before its first line feed.
-fn line_len(text: &[u8]) -> usize
-    ensures within { result ≤ length text.now }
-    ensures run { result ≡ prefix_len unbroken text.now }
-{
-    let mut n = 0;
-    while n < text.len() && text[n] != LINE_FEED {
-        n += 1;
-    }
-    n
+    let start = text.iter().position(|b| !is_white(*b))?;
+    let word = &text[start..];
+    let end = word.iter().position(|b| is_white(*b)).unwrap_or(word.len());
+    Some(word.split_at(end))
 }
 
 // The first line of a text, without its line feed, and the text after it. The last line may have no line feed.
@@ -83,9 +45,26 @@ pub fn first_line(text: &[u8]) -> Option<(&[u8], &[u8])>
     if text.is_empty() {
         return None;
     }
-    let (line, rest) = text.split_at(line_len(text));
-    if rest.is_empty() {
-        return Some((line, rest));
+    match text.iter().position(|b| *b == LINE_FEED) {
+        Some(i) => Some((&text[..i], &text[i + 1..])),
+        None => Some((text, &[])),
     }
-    Some((line, &rest[1..]))
+}
+
+// The lines of a text, one by one.
+#[derive(Clone, Copy)]
+pub struct Lines<'a>(pub &'a [u8]);
+
+impl<'a> Iterator for Lines<'a> {
+    type Item = &'a [u8];
+
+    ghost next_gives = { YieldsFirstRef (λ s. lines s.0.now) };
+
+    ghost remaining = { item_count (λ s. lines s.0.now) };
+
+    fn next(&mut self) -> Option<&'a [u8]> {
+        let (line, rest) = first_line(self.0)?;
+        self.0 = rest;
+        Some(line)
+    }
 }

@@ -1,7 +1,9 @@
-// The readable text of a plan and of claimed answers: a text's bytes to lines, a line's bytes to words, words to a statement. It sees only the standard library.
+// The readable text of a plan and of claimed answers: a text's bytes to lines, a line's bytes to words, words to a statement. It sees the standard library, and of the crate `rows` the kinds of comparison.
 #![tactic(auto)]
 
 pub mod cut;
+pub mod numbers;
+pub mod problem;
 pub mod spelling;
 pub mod statement;
 pub mod statements;
@@ -10,7 +12,10 @@ mod tests;
 pub mod word;
 pub mod words;
 
-pub use cut::first_line;
-pub use statement::{Comparison, Numbers, Problem, Statement};
+pub use cut::{Lines, first_line};
+pub use numbers::Numbers;
+pub use problem::Problem;
+pub use statement::Statement;
 pub use statements::{read_line, reads_back};
-pub use word::Word;
+pub use word::{Misspelling, Word};
+pub use words::Words;

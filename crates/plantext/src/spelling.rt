@@ -1,11 +1,11 @@
 // Reads the bytes of one word. Assumes nothing.
-ghost use Rattle.std.specs.Prelude.{◌≡◌, ◌<◌, ◌≤◌, true, length, pos, if◌then◌else◌};
+ghost use Rattle.std.specs.Prelude.{◌≡◌, ◌<◌, ◌≤◌, true, length, IfOk};
 ghost use Rattle.std.specs.Str.Parse.{digits_value};
-ghost use Rattle.std.specs.Str.{all_ascii_digits, bytes_eq};
-ghost use Rattle.plantext.specs.Spelling.{digits_word, minus, number_word, word_of};
+ghost use Rattle.std.specs.Str.{all_ascii_digits};
+ghost use Rattle.plantext.specs.Spelling.{magnitude, number_word, word_of};
 
-use crate::statement::Comparison;
-use crate::word::Word;
+use crate::word::{Misspelling, Word};
+use rows::kind::Kind;
 
 // The most digits of a number.
 const MOST_DIGITS: usize = 12;
@@ -13,12 +13,7 @@ const MOST_DIGITS: usize = 12;
 fn all_digits(bytes: &[u8]) -> bool
     ensures { result ≡ all_ascii_digits bytes.now }
 {
-    for b in bytes {
-        if !b.is_ascii_digit() {
-            return false;
-        }
-    }
-    true
+    bytes.iter().all(|b| b.is_ascii_digit())
 }
 
 // The number that decimal digits write.
@@ -35,55 +30,47 @@ fn value_of(digits: &[u8]) -> u64
     n
 }
 
-// The word of a number's digits, after its sign.
-fn digits_word(digits: &[u8], negative: bool) -> Word
-    ensures { result ≡ digits_word (if negative then minus else pos) digits.now }
+// The number after a sign.
+fn magnitude(digits: &[u8]) -> Result<u64, Misspelling>
+    ensures value { result ≡ magnitude digits.now }
+    ensures bound { IfOk result (λ n. n < 1000000000000) }
 {
     if digits.is_empty() || !all_digits(digits) {
-        return Word::Unknown;
+        return Err(Misspelling::Unknown);
     }
     if digits.len() > MOST_DIGITS {
-        return Word::TooLong;
+        return Err(Misspelling::TooLong);
     }
-    let n = value_of(digits) as i64;
-    Word::Number(if negative { -n } else { n })
+    Ok(value_of(digits))
 }
 
 // The word of a number, with or without a sign.
-fn number_word(bytes: &[u8]) -> Word
+fn number_word(bytes: &[u8]) -> Result<Word, Misspelling>
     ensures { result ≡ number_word bytes.now }
 {
     match bytes {
-        [b'-', digits @ ..] => digits_word(digits, true),
-        [b'+', digits @ ..] => digits_word(digits, false),
-        digits => digits_word(digits, false),
+        [b'-', digits @ ..] => Ok(Word::Number(-(magnitude(digits)? as i64))),
+        [b'+', digits @ ..] => Ok(Word::Number(magnitude(digits)? as i64)),
+        digits => Ok(Word::Number(magnitude(digits)? as i64)),
     }
 }
 
-fn same(a: &[u8], b: &[u8]) -> bool
-    ensures { result ≡ bytes_eq a.now b.now }
-{
-    a == b
-}
+// The words that are spelt in one way.
+const FIXED: [(&[u8], Word); 7] = [
+    (b"faders", Word::Faders),
+    (b"preset", Word::Preset),
+    (b"clash", Word::Clash),
+    (b"<=", Word::Compare(Kind::AtMost)),
+    (b"<", Word::Compare(Kind::Below)),
+    (b"=", Word::Compare(Kind::Equal)),
+    (b"/", Word::Slash),
+];
 
-pub fn read_word(bytes: &[u8]) -> Word
+pub fn read_word(bytes: &[u8]) -> Result<Word, Misspelling>
     ensures { result ≡ word_of bytes.now }
 {
-    if same(bytes, b"faders") {
-        Word::Faders
-    } else if same(bytes, b"preset") {
-        Word::Preset
-    } else if same(bytes, b"clash") {
-        Word::Clash
-    } else if same(bytes, b"<=") {
-        Word::Compare(Comparison::AtMost)
-    } else if same(bytes, b"<") {
-        Word::Compare(Comparison::Below)
-    } else if same(bytes, b"=") {
-        Word::Compare(Comparison::Equal)
-    } else if same(bytes, b"/") {
-        Word::Slash
-    } else {
-        number_word(bytes)
+    match FIXED.iter().find(|(spelling, _)| bytes == *spelling) {
+        Some((_, word)) => Ok(*word),
+        None => number_word(bytes),
     }
 }

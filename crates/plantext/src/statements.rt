@@ -1,34 +1,20 @@
 // Reads a line. Assumes nothing.
 ghost use Rattle.std.specs.Prelude.{◌≡◌};
-ghost use Rattle.plantext.specs.Grammar.{words_of, known, all_known, front_numbers, after_numbers, rule, preset, clash, statement, statement_of};
+ghost use Rattle.plantext.specs.Grammar.{words_of, all_known, front_numbers, after_numbers, rule, preset, clash, statement, statement_of};
 ghost use Rattle.plantext.specs.Writes.{ReadsBack};
 
 use crate::cut::uncommented;
-use crate::statement::{Problem, Statement};
+use crate::problem::Problem;
+use crate::statement::Statement;
 use crate::word::Word;
-use crate::words::{front_numbers, next_word, one_number};
-
-// Whether a word is known, at its place in the line.
-fn check_word(word: Word, place: usize) -> Result<(), Problem>
-    ensures { result ≡ known place word }
-{
-    match word {
-        Word::Unknown => Err(Problem::UnknownWord(place)),
-        Word::TooLong => Err(Problem::TooLong(place)),
-        _ => Ok(()),
-    }
-}
+use crate::words::{Words, after_numbers, front_numbers, next_word, one_number};
 
 // Whether all words of a text are known.
 fn check_words(text: &[u8]) -> Result<(), Problem>
     ensures { result ≡ all_known 0 (words_of text.now) }
 {
-    let mut place = 0;
-    let mut rest = text;
-    while let Some((word, after)) = next_word(rest) {
-        check_word(word, place)?;
-        place += 1;
-        rest = after;
+    for (place, word) in Words(text).enumerate() {
+        word.map_err(|misspelling| misspelling.at(place))?;
     }
     Ok(())
 }
@@ -37,33 +23,32 @@ fn check_words(text: &[u8]) -> Result<(), Problem>
 fn read_rule(text: &[u8]) -> Result<Statement, Problem>
     ensures { result ≡ rule (front_numbers (words_of text.now)) (after_numbers (words_of text.now)) }
 {
-    let (coefficients, rest) = front_numbers(text);
-    let Some((Word::Compare(comparison), rest)) = next_word(rest) else {
+    let Some((Ok(Word::Compare(kind)), rest)) = next_word(after_numbers(text)) else {
         return Err(Problem::NoStatement);
     };
     let side = one_number(rest)?;
-    Ok(Statement::Rule(coefficients?, comparison, side))
+    let coefficients = front_numbers(text)?;
+    Ok(Statement::Rule(coefficients, kind, side))
 }
 
 // A preset after its first word: numerators, a slash and the denominator.
 fn read_preset(text: &[u8]) -> Result<Statement, Problem>
     ensures { result ≡ preset (front_numbers (words_of text.now)) (after_numbers (words_of text.now)) }
 {
-    let (numerators, rest) = front_numbers(text);
-    let Some((Word::Slash, rest)) = next_word(rest) else {
+    let Some((Ok(Word::Slash), rest)) = next_word(after_numbers(text)) else {
         return Err(Problem::NoStatement);
     };
     let denominator = one_number(rest)?;
-    Ok(Statement::Preset(numerators?, denominator))
+    let numerators = front_numbers(text)?;
+    Ok(Statement::Preset(numerators, denominator))
 }
 
 // A clash after its first word: weights.
 fn read_clash(text: &[u8]) -> Result<Statement, Problem>
     ensures { result ≡ clash (front_numbers (words_of text.now)) (after_numbers (words_of text.now)) }
 {
-    let (weights, rest) = front_numbers(text);
-    match next_word(rest) {
-        None => Ok(Statement::Clash(weights?)),
+    match next_word(after_numbers(text)) {
+        None => Ok(Statement::Clash(front_numbers(text)?)),
         Some(_) => Err(Problem::NoStatement),
     }
 }
@@ -74,9 +59,9 @@ fn read_statement(text: &[u8]) -> Result<Statement, Problem>
 {
     match next_word(text) {
         None => Ok(Statement::Blank),
-        Some((Word::Faders, rest)) => Ok(Statement::Faders(one_number(rest)?)),
-        Some((Word::Preset, rest)) => read_preset(rest),
-        Some((Word::Clash, rest)) => read_clash(rest),
+        Some((Ok(Word::Faders), rest)) => Ok(Statement::Faders(one_number(rest)?)),
+        Some((Ok(Word::Preset), rest)) => read_preset(rest),
+        Some((Ok(Word::Clash), rest)) => read_clash(rest),
         Some(_) => read_rule(text),
     }
 }

@@ -1,34 +1,33 @@
 -- What `add_rule` leaves to show. Assumes nothing.
-use Rattle.std.proofs.Common.{take, sym, refl, ap, ◌∙◌, w64, SFits, rules}
+use Rattle.std.proofs.Common.{take, sym, ap, ◌∙◌, w64, SFits, rules}
 use Rattle.std.proofs.lemmas.Int.{to_z-of_z}
+use Rattle.std.proofs.lemmas.Result.{err_from_is_err_and}
 use Rattle.rows.specs.Limits.{faders}
 use Rattle.plans.specs.Plans.{plan_view}
 use Rattle.plans.specs.Edits.{after_add}
 use Rattle.plans.proofs.PlanRules.{length_rules}
+use Rattle.plantext.specs.Padding.{padded}
 use Rattle.plancheck.specs.Edits.{kind_number, numbers_refusal, refused_by}
-use Rattle.plancheck.proofs.Adding.{done, refused_so, rule_width, rule_numbers}
+use Rattle.plancheck.proofs.Adding.{done, refused_so}
 use Rattle.plancheck.proofs.edits.add_rule.Goals as goal
 
-pub returns-then-numbers-wanted : goal.returns-then-numbers-wanted
-returns-then-numbers-wanted c =
-    (rule_width c.args.numbers.now c.args.comparison c.args.side (plan_view c.args.plan.now) c.if-plan-eq0.false c.if-numbers-wanted.true, refl)
-
-pub returns-in-Ok : goal.returns-in-Ok
-returns-in-Ok c =
+pub returns-in_err-add_numbers : goal.returns-in_err-add_numbers
+returns-in_err-add_numbers c =
     let v = plan_view c.args.plan.now in
-    let zs = take faders c.args.numbers.now.values in
-    let kind = kind_number c.args.comparison in
+    let zs = take faders (padded c.args.numbers.now) in
+    let kind = kind_number c.args.kind in
     let f : SFits w64 c.args.side = search rules in
-    let d = simp to_z-of_z at c.in-Ok.ensures in
-    let e = done (numbers_refusal kind zs c.args.side v) (after_add kind zs c.args.side v) v c.in-Ok.field-0 (plan_view c.add_numbers.new.plan) d in
-    (c.if-numbers-wanted.false, e, sym (length_rules c.add_numbers.new.plan))
+    let d = simp to_z-of_z at c.in_err-add_numbers.ensures in
+    let e = refused_so (numbers_refusal kind zs c.args.side v) (after_add kind zs c.args.side v) v c.in_err-add_numbers.field-0.0 (plan_view c.add_numbers.new.plan) d in
+    let p = err_from_is_err_and c.from_residual-in_err-add_numbers.result c.from_residual-in_err-add_numbers.ensures.1 in
+    rw (p.1, p.2) (c.in_ok-check_width.ensures.1 _ ∙ ap refused_by e.0, e.1)
 
-pub returns-in-Err : goal.returns-in-Err
-returns-in-Err c =
+pub returns : goal.returns
+returns c =
     let v = plan_view c.args.plan.now in
-    let zs = take faders c.args.numbers.now.values in
-    let kind = kind_number c.args.comparison in
+    let zs = take faders (padded c.args.numbers.now) in
+    let kind = kind_number c.args.kind in
     let f : SFits w64 c.args.side = search rules in
-    let d = simp to_z-of_z at c.in-Err.ensures in
-    let e = refused_so (numbers_refusal kind zs c.args.side v) (after_add kind zs c.args.side v) v c.in-Err.refusal (plan_view c.add_numbers.new.plan) d in
-    (rule_numbers c.args.numbers.now c.args.comparison c.args.side v c.if-plan-eq0.false c.if-numbers-wanted.false ∙ ap refused_by e.0, e.1)
+    let d = simp to_z-of_z at c.in_ok-add_numbers.ensures in
+    let e = done (numbers_refusal kind zs c.args.side v) (after_add kind zs c.args.side v) v c.in_ok-add_numbers.field-0 (plan_view c.add_numbers.new.plan) d in
+    (c.in_ok-check_width.ensures.0, e, sym (length_rules c.add_numbers.new.plan))

@@ -1,15 +1,15 @@
--- What `uncommented` leaves to show. Assumes nothing.
-use Rattle.std.proofs.Common.{sym, ◌∙◌}
-use native.Mathlib.Nat.{sub-zero}
-use Rattle.plantext.proofs.Cutting.{before_comment_more, before_comment_here, before_comment_done}
+use Rattle.std.proofs.Common.{rules, tests, ◌≡◌, eqb, sym}
+use Rattle.std.specs.List.{position, position_or_len}
+use Rattle.std.proofs.lemmas.Iterator.{YieldsList-from_slice}
+use Rattle.std.proofs.lemmas.Iterator.Search.{position_from_yields_List}
+use Rattle.plantext.proofs.Cutting.{before_comment_is, place_or_length}
 use Rattle.plantext.proofs.cut.uncommented.Goals as goal
 
-pub returns-then-b-eq-COMMENT : goal.returns-then-b-eq-COMMENT
-returns-then-b-eq-COMMENT c =
-    rw sub-zero (sym (before_comment_here c.args.line.now c.loop-i.i c.loop-i-test.true c.if-b-eq-COMMENT.true) ∙ c.loop-i.invariant)
-
-pub loop-i-preserved : goal.loop-i-preserved
-loop-i-preserved c = sym (before_comment_more c.args.line.now c.loop-i.i c.loop-i-test.true c.if-b-eq-COMMENT.false) ∙ c.loop-i.invariant
-
 pub returns : goal.returns
-returns c = sym (before_comment_done c.args.line.now c.loop-i.i c.loop-i-test.false) ∙ c.loop-i.invariant
+returns c =
+    let line = c.args.line.now in
+    let at : c.position.result ≡ position (λ b. eqb b 35) line = position_from_yields_List (λ b. eqb b 35) _ _ c.position.result c.position.ensures.ran (YieldsList-from_slice line cc) (λ x b q k. search (rules, tests)) in
+    let whole = place_or_length (λ b. eqb b 35) line in
+    let is = before_comment_is line in
+    let end : c.unwrap_or-end.result ≡ position_or_len (λ b. eqb b 35) line = cc in
+    rw end (sym is)

@@ -4,13 +4,10 @@ use Rattle.plantext.specs.Grammar.{words_of}
 use Rattle.plantext.specs.Spelling.{word_of}
 use Rattle.plantext.proofs.words.next_word.Goals as goal
 
-pub returns-in-Some : goal.returns-in-Some
+pub returns-in_err-bytes-clause-word : goal.returns-in_err-bytes-clause-word
 unfolding words_of
-returns-in-Some c = record {
-  word = ap (map word_of) c.in-Some.ensures.cut ∙ ap (λ w. w ∷ words_of c.in-Some.rest.now) (sym c.read_word.ensures);
-  shorter = c.in-Some.ensures.shorter;
-}
+returns-in_err-bytes-clause-word c = rw c.from_residual.ensures (ap (map word_of) c.in_err-bytes.ensures.cut)
 
-pub returns-in-None : goal.returns-in-None
+pub returns-clause-word : goal.returns-clause-word
 unfolding words_of
-returns-in-None c = record { word = ap (map word_of) c.in-None.ensures.cut; shorter = tt }
+returns-clause-word c = ap (map word_of) c.in_ok-bytes.ensures.cut ∙ ap (λ w. w ∷ words_of c.in_ok-bytes.rest.now) (sym c.read_word.ensures)

@@ -1,7 +1,0 @@
--- The loop of `all_digits`: what is left gives the whole answer. Assumes nothing.
-use Rattle.std.proofs.Common.{◌≡◌, drop}
-use Rattle.std.specs.Str.{all_ascii_digits}
-use Rattle.plantext.proofs.spelling.all_digits.Given as goal
-
-abbrev pub invariant-loop-b : goal.invariant-loop-b
-invariant-loop-b l = all_ascii_digits (drop l.b-index l.bytes) ≡ all_ascii_digits l.bytes
