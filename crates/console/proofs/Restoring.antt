@@ -1,5 +1,5 @@
 -- What a guard mutes it restores. Assumes nothing.
-use Rattle.std.proofs.Common.{◌≡◌, ℕ, zero, suc, ◌<◌, ◌≤◌, Bool, true, false, cond, List, [], ◌∷◌, length, get_or, take, set, replicate, sym, refl, ap, ◌∙◌, arith}
+use Rattle.std.proofs.Common.{◌≡◌, ℕ, zero, suc, ◌<◌, ◌≤◌, Bool, true, false, cond, List, [], ◌∷◌, length, get_or, take, set, sym, refl, ap, ◌∙◌, arith}
 use Rattle.plans.specs.declared.rule.Rule.{Rule}
 use Rattle.console.specs.Marks.{with_mark, marked, restored, Sounds}
 
@@ -78,9 +78,3 @@ sound_kept (m ∷ muted) [] i h e = nothing (set (m ∷ muted) i false)
     nothing (m ∷ ms) = refl
 sound_kept (m ∷ muted) (r ∷ rules) zero h e = ap (λ (b : Bool). cond b (with_mark r true) r ∷ restored muted rules) (sym e)
 sound_kept (m ∷ muted) (r ∷ rules) (suc i) h e = ap (λ (more : List Rule). cond m (with_mark r true) r ∷ more) (sound_kept muted rules i (omega arith) e)
-
--- a guard that has muted nothing
-pub restored_none : (n : ℕ) (rules : List Rule) → restored (replicate n false) rules ≡ rules
-restored_none zero rules = refl
-restored_none (suc n) [] = refl
-restored_none (suc n) (r ∷ rules) = ap (λ (more : List Rule). r ∷ more) (restored_none n rules)

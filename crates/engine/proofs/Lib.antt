@@ -1,6 +1,5 @@
 pub mod Exactness
 pub mod StateRows
-pub mod Answered
 pub mod Loading
 pub mod Readings
 pub mod Replying

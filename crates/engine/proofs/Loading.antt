@@ -154,6 +154,3 @@ used_each count (r ∷ rows) used = (record { places = r.places; within = r.with
 
 pub used_valid : (count : ℕ) (rows : List Row) → 0 < count → count ≤ faders → length rows ≤ most_rows → UsedBelow count rows → Valid count (constraints rows)
 used_valid count rows some few short used = record { some = some; few = few; short = omega (arith, short, length-map rows constraint); each = used_each count rows used }
-
-pub used_unrefused : (count : ℕ) (rows : List Row) → 0 < count → count ≤ faders → length rows ≤ most_rows → UsedBelow count rows → rows_refusal count (constraints rows) ≡ None
-used_unrefused count rows some few short used = valid_unrefused count (constraints rows) (used_valid count rows some few short used)

@@ -1,12 +1,10 @@
 -- An answer that is read number by number. Assumes nothing.
-use Rattle.std.proofs.Common.{◌≡◌, ℕ, ◌+◌, ◌<◌, ◌≤◌, ltb, List, [], ◌∷◌, ◌++◌, length, get_or, take, set, ℤ, pos, Ok, Err, Result, sym, refl, ap, ◌∙◌, subst, arith}
+use Rattle.std.proofs.Common.{◌≡◌, ℕ, ◌+◌, ◌<◌, ◌≤◌, ltb, List, [], ◌∷◌, ◌++◌, length, get_or, take, set, ℤ, pos, Ok, Err, Result, sym, refl, ap, ◌∙◌, arith}
 use Rattle.std.proofs.lemmas.List.{take_more, take_more_set}
 use Rattle.std.proofs.lemmas.Bool.{cond-true, lt-ltb}
-use Rattle.engine.specs.declared.refusal.Refusal.{Refusal}
-use Rattle.engine.specs.declared.refusal.Refusal.TheVariants.{NoAnswer}
 use Rattle.rows.specs.Limits.{largest, faders, EachWithin}
-use Rattle.engine.specs.Interface.{Answer, View, numerator_reply, denominator_reply, weight_reply}
-use Rattle.engine.specs.Deciding.{Levels, Loads, Readable}
+use Rattle.engine.specs.Interface.{Answer, View, numerator_reply, weight_reply}
+use Rattle.engine.specs.Deciding.{Levels, Loads}
 use Rattle.engine.proofs.StateRows.{weight_at}
 
 abbrev pub numerators_in : Answer → List ℤ
@@ -83,13 +81,3 @@ loads_whole n (Answer.preset ns d) l = absurd l
 loads_whole n (Answer.clash ws) l = refl
 
 -- ---- which of the two is held
-
-pub levels_held : (n : ℕ) (a : Answer) (d : ℕ) → Readable n a → denominator_reply a ≡ Ok d → Levels d a
-levels_held n Answer.none d r e = absurd r
-levels_held n (Answer.preset ns x) d r e = subst (λ (y : ℕ). Levels y (Answer.preset ns x)) (ok_same x d e) r
-levels_held n (Answer.clash ws) d r e = absurd (ok_err d NoAnswer (sym e))
-
-pub loads_held : (n : ℕ) (a : Answer) (x : Refusal) → Readable n a → denominator_reply a ≡ Err x → Loads n a
-loads_held n Answer.none x r e = absurd r
-loads_held n (Answer.preset ns d) x r e = absurd (ok_err d x e)
-loads_held n (Answer.clash ws) x r e = r

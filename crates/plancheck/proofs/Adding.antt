@@ -1,12 +1,12 @@
 -- How a rule's numbers reach the plan, and which complaint stands. Assumes nothing.
-use Rattle.std.proofs.Common.{◌≡◌, ℕ, Bool, true, not, List, ℤ, Some, None, Ok, Err, Option, Result, sym, ap, ◌∙◌, subst}
+use Rattle.std.proofs.Common.{◌≡◌, ℕ, Bool, true, not, List, ℤ, Some, None, Ok, Err, Option, sym, ap, ◌∙◌}
 use Rattle.rows.specs.Limits.{near}
 use Rattle.engine.specs.Interface.{Does, first_refusal, refused_if, unused_refusal}
 use Rattle.engine.specs.declared.refusal.Refusal.{Refusal}
 use Rattle.engine.specs.declared.refusal.Refusal.TheVariants.{BadSide}
 use Rattle.plans.specs.Ranges.{coefficient_range}
 use Rattle.plans.specs.Plans.{PlanView}
-use Rattle.plans.specs.Edits.{Added, add_refusal, after_add}
+use Rattle.plans.specs.Edits.{add_refusal}
 use Rattle.plancheck.specs.Numbers.{first_beyond}
 use Rattle.plancheck.specs.Edits.{numbers_refusal}
 
@@ -17,14 +17,6 @@ module _ (kind : ℕ) (zs : List ℤ) (s : ℤ) (v : PlanView) (e : first_beyond
 
   pub side_near : near s ≡ true → numbers_refusal kind zs s v ≡ add_refusal kind zs s v
   side_near h = at_side ∙ ap (λ (b : Bool). first_refusal (refused_if (not b) BadSide) (add_refusal kind zs s v)) h
-
--- the plan was given the same kind, coefficients and side
-pub added : {U : Type 0} (given kind : ℕ) (cs zs : List ℤ) (z s : ℤ) (v : PlanView) (r : Result U Refusal) (w : PlanView) → given ≡ kind → cs ≡ zs → z ≡ s → first_beyond coefficient_range 0 zs ≡ None → near s ≡ true → Added given cs z v r w → Does (numbers_refusal kind zs s v) (after_add kind zs s v) v r w
-added given kind cs zs z s v r w p q t e h a =
-    let one = subst (λ (k : ℕ). Added k cs z v r w) p a in
-    let two = subst (λ (xs : List ℤ). Added kind xs z v r w) q one in
-    let three = subst (λ (x : ℤ). Added kind zs x v r w) t two in
-    subst (λ (o : Option Refusal). Does o (after_add kind zs s v) v r w) (sym (side_near kind zs s v e h)) three
 
 -- what a reply tells
 pub done : {U V : Type 0} (o : Option Refusal) (next v : V) (u : U) (w : V) → Does o next v (Ok u) w → w ≡ next

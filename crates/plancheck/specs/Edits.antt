@@ -1,5 +1,6 @@
 -- What the statements that change a plan do. Assumes nothing.
 use Rattle.std.specs.Prelude.{◌≡◌, ℕ, not, List, length, take, ℤ, pos, negsuc, Some, None, Ok, Err, Option, Result}
+use Rattle.rows.specs.Kinds.{number_of}
 use Rattle.rows.specs.Limits.{faders, near}
 use Rattle.engine.specs.Interface.{Does, first_refusal, refused_if, unused_refusal}
 use Rattle.engine.specs.declared.refusal.Refusal.{Refusal}
@@ -10,7 +11,6 @@ use Rattle.plans.specs.Edits.{Opened, add_refusal, after_add}
 use Rattle.plantext.specs.declared.numbers.Numbers.{Numbers}
 use Rattle.plantext.specs.Padding.{padded}
 use Rattle.rows.specs.declared.kind.Kind.{Kind}
-use Rattle.rows.specs.declared.kind.Kind.TheVariants.{AtMost, Below, Equal}
 use Rattle.plancheck.specs.declared.complaint.Complaint.{Complaint}
 use Rattle.plancheck.specs.declared.complaint.Complaint.TheVariants.{Refused}
 use Rattle.plancheck.specs.declared.complaint.Counted.TheVariants.{Coefficients}
@@ -21,12 +21,6 @@ use Rattle.plancheck.specs.Numbers.{first_beyond}
 abbrev pub Opens : {U : Type 0} → ℤ → PlanView → Result U Refusal → PlanView → Type 0
 Opens (pos n) v r w = Opened n v r w
 Opens (negsuc n) v r w = Does (Some BadCount) v v r w
-
--- the number of a comparison's kind
-abbrev pub kind_number : Kind → ℕ
-kind_number AtMost = 0
-kind_number Below = 1
-kind_number Equal = 2
 
 -- numbers that no rule has, and then what the plan refuses
 abbrev pub numbers_refusal : ℕ → List ℤ → ℤ → PlanView → Option Refusal
@@ -40,9 +34,9 @@ refused_by None = None
 refused_by (Some refusal) = Some (Refused refusal)
 
 abbrev pub rule_complaint : Numbers → Kind → ℤ → PlanView → Option Complaint
-rule_complaint ns c s v = in_width Coefficients v.count ns v.count (refused_by (numbers_refusal (kind_number c) (take faders (padded ns)) s v))
+rule_complaint ns c s v = in_width Coefficients v.count ns v.count (refused_by (numbers_refusal (number_of c) (take faders (padded ns)) s v))
 
 -- what is replied to a rule: its number, or why the line is bad
 abbrev pub RuleAdded : Numbers → Kind → ℤ → PlanView → Result ℕ Complaint → PlanView → Type 0
-RuleAdded ns c s v (Ok n) w = (length ns ≡ v.count) × (w ≡ after_add (kind_number c) (take faders (padded ns)) s v) × (n ≡ length w.rules)
+RuleAdded ns c s v (Ok n) w = (length ns ≡ v.count) × (w ≡ after_add (number_of c) (take faders (padded ns)) s v) × (n ≡ length w.rules)
 RuleAdded ns c s v (Err e) w = (rule_complaint ns c s v ≡ Some e) × (w ≡ v)

@@ -51,7 +51,7 @@ pub fn check_preset(
     check_width(plan, numbers, Counted::Numerators, plan.count as usize)?;
     let preset = preset_of(numbers, denominator)?;
     let list = plan.sounding();
-    Ok(preset_verdict(&preset, &list.rows[..list.len]))
+    Ok(preset_verdict(&preset, list.as_slice()))
 }
 
 // The weights that the numbers say.
@@ -83,5 +83,5 @@ pub fn check_clash(plan: &Plan, numbers: &Numbers) -> Result<ClashVerdict, Compl
     let wanted = list.len;
     check_width(plan, numbers, Counted::Weights, wanted)?;
     let weights = weights_of(numbers)?;
-    Ok(clash_verdict(&weights, &list.rows[..wanted]))
+    Ok(clash_verdict(&weights, list.as_slice()))
 }

@@ -1,11 +1,12 @@
 // The statements that change the plan. A refused one leaves it as it stood. Assumes nothing.
 ghost use Rattle.std.specs.Prelude.{◌≡◌, take, pos, IfOk};
+ghost use Rattle.rows.specs.Kinds.{number_of};
 ghost use Rattle.rows.specs.Limits.{faders as desk_places};
 ghost use Rattle.engine.specs.Interface.{Does};
 ghost use Rattle.plans.specs.Plans.{plan_view};
 ghost use Rattle.plans.specs.Edits.{after_add};
 ghost use Rattle.plantext.specs.Padding.{padded};
-ghost use Rattle.plancheck.specs.Edits.{Opens, kind_number, numbers_refusal, RuleAdded};
+ghost use Rattle.plancheck.specs.Edits.{Opens, numbers_refusal, RuleAdded};
 
 use crate::complaint::{Complaint, Counted};
 use crate::numbers::{coefficients, first_six};
@@ -26,25 +27,14 @@ pub fn open_desk(plan: &mut Plan, faders: i64) -> Result<u8, Refusal>
     Ok(count)
 }
 
-// The number of a comparison's kind.
-fn kind_number(kind: Kind) -> u8
-    ensures { result ≡ kind_number kind }
-{
-    match kind {
-        Kind::AtMost => 0,
-        Kind::Below => 1,
-        Kind::Equal => 2,
-    }
-}
-
 // A rule whose coefficients are one for each fader.
 fn add_numbers(plan: &mut Plan, numbers: &Numbers, kind: Kind, side: i64) -> Result<(), Refusal>
-    ensures { Does (numbers_refusal (kind_number kind) (take desk_places (padded numbers.now)) side (plan_view plan.old)) (after_add (kind_number kind) (take desk_places (padded numbers.now)) side (plan_view plan.old)) (plan_view plan.old) result (plan_view plan.new) }
+    ensures { Does (numbers_refusal (number_of kind) (take desk_places (padded numbers.now)) side (plan_view plan.old)) (after_add (number_of kind) (take desk_places (padded numbers.now)) side (plan_view plan.old)) (plan_view plan.old) result (plan_view plan.new) }
 {
     let values = first_six(numbers);
     let coefficients = coefficients(&values).map_err(Refusal::BadCoefficient)?;
     let side = narrow(side).ok_or(Refusal::BadSide)?;
-    plan.add(kind_number(kind), &coefficients, side)
+    plan.add(u8::from(kind), &coefficients, side)
 }
 
 // One more rule; the reply is its number, from 1.

@@ -1,14 +1,13 @@
 -- What a loop over the rows reads, and the first of a list that fails. Assumes nothing.
-use Rattle.std.proofs.Common.{◌≡◌, ℕ, zero, suc, ◌+◌, ◌<◌, Bool, true, false, not, List, [], ◌∷◌, map, length, get_or, take, Option, Some, None, refl, sym, ap, ◌∙◌, subst, arith}
+use Rattle.std.proofs.Common.{◌≡◌, ℕ, zero, suc, ◌<◌, Bool, true, false, not, List, [], ◌∷◌, map, length, get_or, Option, Some, None, refl, sym, ap, ◌∙◌, arith}
 use Rattle.std.specs.Option.{MatchOption, is_some}
 use Rattle.std.specs.Bool.{Decides}
 use Rattle.std.proofs.lemmas.Bool.{false≢true}
 use Rattle.std.specs.List.{AllByRecursion as All, AllWithin, HoldsAt}
 use Rattle.std.proofs.lemmas.List.{get_or-map, length-map}
-use Rattle.std.proofs.ByRecursion.{All-more}
 use Rattle.rows.specs.declared.row.Row.{Row}
 use Rattle.rows.specs.Firsts.{FirstWithout}
-use Rattle.rows.specs.Rows.{Constraint, constraint, constraints}
+use Rattle.rows.specs.Rows.{constraint, constraints}
 
 pub first_not_all : {X : Type 0} (P : X → Type 0) (xs : List X) (i : ℕ) → FirstWithout P xs i → All P xs → ⊥
 first_not_all P [] i f all = f

@@ -1,6 +1,6 @@
 -- A loop that adds up products: what is left to add makes the whole sum. Assumes nothing.
 use Rattle.std.proofs.Common.{◌≡◌, ℕ, ◌+◌, ◌<◌, ◌≤◌, List, length, get_or, drop, ℤ, pos, ◌+ℤ◌, ◌*ℤ◌, sym, ap, ◌∙◌}
-use lib.IntN.{+ℤ_assoc, +ℤ_idr, +ℤ_idl}
+use lib.IntN.{+ℤ_assoc, +ℤ_idr}
 use Rattle.std.proofs.lemmas.List.{drop_more, drop_all}
 use Rattle.integers.specs.Vectors.{dot}
 use Rattle.integers.proofs.VectorLaws.{dot_nil}

@@ -1,14 +1,13 @@
 -- Weights beside the rows of a list: what a loop over the rows shows of them, place by place. Assumes nothing.
-use Rattle.std.proofs.Common.{◌≡◌, ℕ, zero, suc, ◌+◌, ◌<◌, ◌≤◌, List, [], ◌∷◌, map, length, get_or, take, drop, ℤ, pos, ◌+ℤ◌, ◌*ℤ◌, ◌<ℤ◌, sym, refl, ap, ◌∙◌, subst, inl, inr, add-one, arith}
+use Rattle.std.proofs.Common.{◌≡◌, ℕ, zero, suc, ◌<◌, ◌≤◌, List, [], ◌∷◌, map, length, get_or, take, ℤ, pos, ◌+ℤ◌, ◌*ℤ◌, ◌<ℤ◌, sym, refl, ap, ◌∙◌, subst, inl, inr, arith}
 use lib.IntN.{*ℤ-zero}
 use Rattle.std.proofs.lemmas.List.{get_or_past, length-map}
 use Rattle.integers.specs.Vectors.{dot}
 use Rattle.rows.specs.declared.kind.Kind.TheVariants.{Below}
 use Rattle.rows.specs.declared.row.Row.{Row}
 use Rattle.rows.specs.Limits.{faders}
-use Rattle.rows.specs.Rows.{Constraint, constraint, constraints}
-use Rattle.rows.proofs.Firsts.{constraint_at, within_constraints}
-use Rattle.rows.specs.Clashes.{Weighs, Weighed, column, total, Strictly, Falsehood, FirstNegative}
+use Rattle.rows.specs.Rows.{Constraint, constraints}
+use Rattle.rows.specs.Clashes.{Weighed, column, total, Strictly, Falsehood, FirstNegative}
 
 pub negative_not_weighed : (ws : List ℤ) (rows : List Constraint) (i : ℕ) → FirstNegative ws rows i → Weighed ws rows → ⊥
 negative_not_weighed [] rows i f all = f

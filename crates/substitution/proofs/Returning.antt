@@ -1,5 +1,5 @@
 -- What is handed to the engine below, and how its reply gives the layer's answer. Assumes nothing.
-use Rattle.std.proofs.Common.{◌≡◌, ℕ, ◌<◌, ◌≤◌, List, [], map, length, take, Ok, Err, Result, sym, ap, ◌∙◌, subst, arith}
+use Rattle.std.proofs.Common.{◌≡◌, ℕ, ◌<◌, ◌≤◌, List, [], map, length, Ok, Err, Result, sym, ap, ◌∙◌, subst, arith}
 use Rattle.std.proofs.lemmas.List.{length-map, length-take-le}
 use Rattle.engine.specs.declared.answer.Answer.{Answer as Kept}
 use Rattle.engine.specs.declared.fault.Fault.{Fault}

@@ -1,4 +1,4 @@
-use Rattle.std.proofs.Common.{length, ℕ, ap, subst, arith, rules}
+use Rattle.std.proofs.Common.{arith, rules}
 use Rattle.std.proofs.lemmas.List.{length-map}
 use Rattle.std.proofs.lemmas.Iterator.{IsFirst-from_position, YieldsList-from_slice, YieldsList-from_zip}
 use borrow.Author.Tests.{tests}

@@ -1,4 +1,4 @@
-use Rattle.std.proofs.Common.{◌≡◌, Bool, true, ◌&&◌, List, length, ℤ, ◌+ℤ◌, ◌*ℤ◌, Some, sym, ap, ◌∙◌, subst, w32, SFits, to_z, of_z}
+use Rattle.std.proofs.Common.{◌≡◌, true, ◌&&◌, List, length, ℤ, ◌+ℤ◌, ◌*ℤ◌, Some, sym, ap, ◌∙◌, subst, w32, SFits, to_z, of_z}
 use Rattle.std.proofs.lemmas.Int.{to_z-of_z}
 use Rattle.std.proofs.lemmas.Bool.{and_from}
 use Rattle.integers.specs.Vectors.{add, scale}

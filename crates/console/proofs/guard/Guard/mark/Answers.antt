@@ -1,7 +1,6 @@
 -- What `mark` leaves to show. Assumes nothing.
 use Rattle.std.proofs.Common.{◌≡◌, ℕ, ◌<◌, Bool, true, false, not, List, length, set, refl, ap, ◌∙◌, arith}
 use Rattle.plans.specs.declared.rule.Rule.{Rule}
-use Rattle.rows.specs.Limits.{most_rows}
 use Rattle.console.specs.Marks.{marked, restored, Markable}
 use Rattle.console.proofs.Restoring.{marked_set, mute_kept, sound_kept}
 use Rattle.console.proofs.guard.Guard.mark.Goals as goal

@@ -1,5 +1,4 @@
 use Rattle.std.proofs.Common.{List, sym, refl, ap, ◌∙◌, arith}
-use Rattle.std.proofs.lemmas.List.{length-set}
 use Rattle.rows.specs.Lists.{items}
 use Rattle.rows.specs.Rows.{Constraint, constraint}
 use Rattle.engine.specs.Interface.{Answer, unused_refusal}

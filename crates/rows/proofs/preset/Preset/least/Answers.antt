@@ -1,7 +1,6 @@
-use Rattle.std.proofs.Common.{◌≡◌, ℕ, ◌/◌, ◌<◌, List, length, ℤ, pos, sym, ap, ◌∙◌, subst, arith}
+use Rattle.std.proofs.Common.{ℕ, ◌/◌, ◌<◌, List, length, ℤ, pos, sym, ap, ◌∙◌, subst, arith}
 use lib.Signed.{quot_z}
 use Rattle.std.proofs.lemmas.List.{length-map}
-use Rattle.integers.specs.Divisors.{gcd_all}
 use Rattle.integers.specs.Fractions.{Least, Same}
 use Rattle.rows.specs.Limits.{EachWithin}
 use Rattle.rows.specs.Presets.{divided}
