@@ -61,6 +61,7 @@ fn by_number(rules: &[Rule], weights: &Weights) -> [i32; ROWS]
 }
 
 // Decides the sounding rules, and sets the answer down.
+// kept: the engine and the table that it works in are lent apart, a rule of the project: the guard of Blame holds the rules and nothing of the engine
 pub fn ask<E: Engine>(
     plan: &Plan,
     engine: &mut E,

@@ -48,6 +48,7 @@ fn walk<E: Engine>(
         rules,
         muted: [false; ROWS],
     };
+    // kept: the guard changes the rules in each turn, so that no iterator can hold them
     for number in 0..len {
         let rule = guard.rules()[number];
         if rule.sounds {

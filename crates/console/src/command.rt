@@ -6,6 +6,7 @@ pub enum Command {
     // an empty plan with so many faders
     Open(u8),
     // one more rule: the number of its kind, a coefficient for each fader, and the side
+    // kept: any byte is read as a kind's number, and the plan refuses one that no kind has
     Add {
         kind: u8,
         coefficients: [i16; FADERS],

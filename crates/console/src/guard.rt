@@ -9,6 +9,7 @@ use rows::ROWS;
 pub struct Guard<'a> {
     pub rules: &'a mut [Rule],
     // which of them it muted
+    // kept: a mark beside each rule, in fixed memory, since a rule that is lent has no place for it
     pub muted: [bool; ROWS],
 }
 
@@ -17,6 +18,7 @@ impl Drop for Guard<'_> {
         ensures { self.exit.0.now ≡ restored self.entry.muted self.entry.rules.now }
     {
         let Guard { rules, muted } = self;
+        // kept: of `rules.iter_mut().zip(muted)` a proof does not know what was written
         for i in 0..ROWS {
             if muted[i] && i < rules.len() {
                 rules[i].sounds = true;

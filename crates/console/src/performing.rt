@@ -56,6 +56,7 @@ fn reply_to_blame<E: Engine>(plan: &mut Plan, engine: &mut E, table: &mut [E::Ce
     ensures exact { reply_view result ≡ reply_of E.Engine.verdict (table_refusal E.Engine.cells (length table.old)) (plan_view plan.old) BlameCommand }
 {
     let mut marks = [0; ROWS];
+    // kept: `map_or_else(Reply::Refused, |()| Reply::Blamed(marks))` has the cases in the other order, and says no more
     match blame(plan, engine, table, &mut marks) {
         Ok(()) => Reply::Blamed(marks),
         Err(refusal) => Reply::Refused(refusal),

@@ -13,6 +13,7 @@ use engine::Engine;
 use plans::Plan;
 
 // Carries out the commands in order, as many as there is room for replies, and says how many. The engine may be in any state.
+// kept: replies go into places that the caller lends, since there is no heap
 pub fn play<E: Engine>(
     commands: &[Command],
     engine: &mut E,

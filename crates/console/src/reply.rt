@@ -18,6 +18,7 @@ pub enum Reply {
         weights: [i32; ROWS],
     },
     // 1 at the number of each rule of a minimal infeasible set, and 0 elsewhere
+    // kept: numbers and no bools are what the caller's marks hold, a rule of the project
     Blamed([u8; ROWS]),
     Refused(Refusal),
 }

@@ -19,6 +19,7 @@ impl Fault {
 }
 
 impl Cause {
+    // Its number, beside which another maker's cause keeps its own.
     pub fn number(self) -> u8
         ensures { result ≡ cause_number self }
     {
@@ -33,6 +34,7 @@ impl Cause {
 }
 
 impl Refusal {
+    // kept: a method, since `u8::from(refusal)` would look as if nothing were lost
     pub fn number(&self) -> u8
         ensures { result ≡ number_of self.now }
     {

@@ -10,6 +10,7 @@ use rows::list::RowList;
 #[derive(Clone, Copy)]
 pub struct State {
     // 0 before the first start
+    // kept: 0 is a count, of which the invariants below hold as of any; an Option would put a case into each of them
     pub count: u8,
     pub rows: RowList,
     // none before a decision, and after one that was refused as too large

@@ -27,6 +27,7 @@ fn each<T: Copy + Default, const N: usize, F: Fn(i64) -> Option<T>>(
 {
     let mut all = [T::default(); N];
     for (k, z) in values.iter().enumerate() {
+        // kept: with `ok_or(k)?` the proof of which place the error names did not close
         match narrow(*z) {
             Some(value) => all[k] = value,
             None => return Err(k),

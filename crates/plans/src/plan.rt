@@ -9,8 +9,10 @@ use rows::bounds::ROWS;
 #[derive(Clone, Copy, PartialEq, Eq, Debug)]
 pub struct Plan {
     // 0 while no plan is open
+    // kept: 0 is a count, of which the invariants below hold as of any; an Option would put a case into each of them
     pub count: u8,
     // the first `len` of them are the plan's, numbered from 0 as they came
+    // kept: fixed memory; `rules` lends the part that is used
     pub rules: [Rule; ROWS],
     pub len: u8,
     ghost few: { count ≤ faders },

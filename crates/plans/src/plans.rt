@@ -51,6 +51,7 @@ impl Plan {
     }
 
     // Appends a rule, which sounds.
+    // kept: the number of a kind as it was read, since one that no kind has is refused here, after two other refusals
     pub fn add(&mut self, kind: u8, coefficients: &[i16; FADERS], side: i32) -> Result<(), Refusal>
         ensures { Added kind coefficients.now side (plan_view self.old) result (plan_view self.new) }
     {

@@ -10,6 +10,7 @@ use std::io;
 use std::io::{Read, Write};
 
 // Reads until the input ends or the buffer is full, and says how many bytes there are.
+// kept: at most so many bytes are read, into fixed memory
 fn fill(rt: &HostRuntime, buffer: &mut [u8]) -> io::Result<usize>
     ensures { IfOk result (λ n. n ≤ length buffer.old) }
 {

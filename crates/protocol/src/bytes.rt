@@ -10,6 +10,7 @@ use engine::Refusal;
 pub const MOST_BYTES: usize = 4096;
 
 // How many commands were read, and why reading stopped before the end of the bytes, if it did.
+// kept: commands go into places that the caller lends, since there is no heap; those before the stop count, so that it is no error of the call
 #[derive(Clone, Copy)]
 pub struct Reading {
     pub count: usize,

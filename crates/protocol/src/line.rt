@@ -5,6 +5,7 @@ ghost use Rattle.protocol.specs.Lines.{most_line};
 // The bytes of the longest line: CLASH, sixteen weights of a space, a minus sign and ten digits, and the newline.
 pub const MOST_LINE: usize = 198;
 
+// kept: fixed memory, and not the text of a Display: `write!` into an array can fail, and the writing of a line cannot
 #[derive(Clone, Copy)]
 pub struct Line {
     // the first `len` of them are the line

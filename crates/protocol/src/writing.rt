@@ -8,6 +8,7 @@ ghost use Rattle.protocol.specs.Lines.{most_item, most_line, items, marked};
 use crate::line::{Line, MOST_LINE};
 use engine::Refusal;
 
+// kept: each function asks for the room of what it writes, which is another room for each; one fact for all would make writing fail
 impl Line {
     // The bytes of the line.
     pub fn as_bytes(&self) -> &[u8]

@@ -16,6 +16,7 @@ use crate::weights::Weights;
 use integers::product;
 
 // A number of each row: the coefficient of a fader, or the side.
+// kept: an `Option<usize>` would not say that none is the side
 #[derive(Clone, Copy)]
 enum Part {
     Coefficient(usize),

@@ -5,6 +5,7 @@ ghost use Rattle.rows.specs.Limits.{most_rows, EachWithin};
 use crate::bounds::ROWS;
 
 // A whole number for each row that a list can have.
+// kept: fixed memory; how many are used is the length of the list that they are held against
 #[derive(Clone, Copy, PartialEq, Eq, Debug)]
 pub struct Weights {
     pub values: [i32; ROWS],

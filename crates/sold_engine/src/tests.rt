@@ -1,4 +1,5 @@
 // Plans with equations and without, decided by the engine as sold.
+// kept: the small functions below stand in the tests of `elimination` too, since no crate can call the tests of another
 use crate::sold::{SoldEngine, new_engine, new_table};
 use engine::{Cause, Engine, Fault, Refusal};
 use rows::{Kind, Row};
