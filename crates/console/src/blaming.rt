@@ -21,6 +21,7 @@ fn marks_of(rules: &[Rule]) -> [u8; ROWS]
     ensures { result ≡ marks_from most_rows 0 (numbers_of (numbered 0 (rule_views rules.now))) }
 {
     let mut marks = [0; ROWS];
+    // kept: of `marks.iter_mut().zip(rules)` a proof does not know what was written
     for (number, rule) in rules.iter().enumerate() {
         if rule.sounds {
             marks[number] = 1;

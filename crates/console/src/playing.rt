@@ -28,6 +28,7 @@ pub fn play<E: Engine>(
 {
     let mut plan = Plan::new();
     let count = commands.len().min(replies.len());
+    // kept: of `replies.iter_mut().zip(commands)` a proof does not know what was written
     for (i, command) in commands[..count].iter().enumerate() {
         replies[i] = perform(&mut plan, *command, engine, table);
     }

@@ -15,6 +15,7 @@ fn fill(rt: &HostRuntime, buffer: &mut [u8]) -> io::Result<usize>
     ensures { IfOk result (λ n. n ≤ length buffer.old) }
 {
     let mut filled = 0;
+    // kept: a read may give any part of what is left, so that no slice or iterator counts the turns; this many suffice
     for _ in 0..buffer.len() {
         let room = buffer.len() - filled;
         let got = rt.stdin().read(&mut buffer[filled..])?;
