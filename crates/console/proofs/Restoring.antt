@@ -30,13 +30,13 @@ restored_skips (m ∷ muted) [] (suc i) e = refl
 restored_skips (m ∷ muted) (r ∷ rules) (suc i) e = ap (λ (more : List Rule). cond m (with_mark r true) r ∷ more) (restored_skips muted rules i e)
 
 -- past the end of the rules
-pub restored_past : (muted : List Bool) (rules : List Rule) (i : ℕ) → length rules ≤ i → restored (take (suc i) muted) rules ≡ restored (take i muted) rules
-restored_past [] rules zero h = refl
-restored_past [] rules (suc i) h = refl
-restored_past (m ∷ muted) [] zero h = refl
-restored_past (m ∷ muted) (r ∷ rules) zero h = absurd (omega arith)
-restored_past (m ∷ muted) [] (suc i) h = refl
-restored_past (m ∷ muted) (r ∷ rules) (suc i) h = ap (λ (more : List Rule). cond m (with_mark r true) r ∷ more) (restored_past muted rules i (omega arith))
+pub restored_all : (muted : List Bool) (rules : List Rule) (i : ℕ) → length rules ≤ i → restored (take i muted) rules ≡ restored muted rules
+restored_all [] rules zero h = refl
+restored_all [] rules (suc i) h = refl
+restored_all (m ∷ muted) [] zero h = refl
+restored_all (m ∷ muted) [] (suc i) h = refl
+restored_all (m ∷ muted) (r ∷ rules) zero h = absurd (omega arith)
+restored_all (m ∷ muted) (r ∷ rules) (suc i) h = ap (λ (more : List Rule). cond m (with_mark r true) r ∷ more) (restored_all muted rules i (omega arith))
 
 -- a rule that was muted
 restored_more : (muted : List Bool) (rules : List Rule) (i : ℕ) → i < length rules → get_or muted i false ≡ true → restored (take (suc i) muted) rules ≡ marked (restored (take i muted) rules) i true

@@ -18,10 +18,9 @@ impl Drop for Guard<'_> {
         ensures { self.exit.0.now ≡ restored self.entry.muted self.entry.rules.now }
     {
         let Guard { rules, muted } = self;
-        // kept: of `rules.iter_mut().zip(muted)` a proof does not know what was written
-        for i in 0..ROWS {
-            if muted[i] && i < rules.len() {
-                rules[i].sounds = true;
+        for (i, rule) in rules.iter_mut().enumerate() {
+            if i < ROWS && muted[i] {
+                rule.sounds = true;
             }
         }
     }
