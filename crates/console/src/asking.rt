@@ -50,6 +50,7 @@ fn by_number(rules: &[Rule], weights: &Weights) -> [i32; ROWS]
     ensures { result ≡ padded (spread (rule_views rules.now) weights.now.values) }
 {
     let mut spread = [0; ROWS];
+    // kept: the place among the weights moves on only at a rule that sounds
     let mut place = 0;
     for (number, rule) in rules.iter().enumerate() {
         if rule.sounds {

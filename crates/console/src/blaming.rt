@@ -82,6 +82,7 @@ pub fn blame<E: Engine>(
     if !whole.is_clash() {
         return Err(Refusal::Feasible);
     }
+    // kept: a copy, lent and stored back, since a proof knows nothing of a write through a part of an array in a field
     let mut rules = plan.rules;
     let reply = walk(&mut rules[..len], count, engine, table, marks);
     plan.rules = rules;

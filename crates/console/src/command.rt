@@ -1,7 +1,7 @@
 // The commands of the box: one for each call, with its arguments. Assumes nothing.
 use rows::FADERS;
 
-#[derive(Clone, Copy, PartialEq, Debug)]
+#[derive(Clone, Copy, PartialEq, Eq, Debug)]
 pub enum Command {
     // an empty plan with so many faders
     Open(u8),

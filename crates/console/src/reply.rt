@@ -2,7 +2,8 @@
 use engine::Refusal;
 use rows::{FADERS, ROWS};
 
-#[derive(Clone, Copy)]
+// kept: in a preset and in a clash all the places of fixed memory, of which so many are the plan's
+#[derive(Clone, Copy, PartialEq, Eq, Debug)]
 pub enum Reply {
     // the call was carried out, and there is nothing to tell
     Done,

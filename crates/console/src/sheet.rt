@@ -6,7 +6,7 @@ use rows::{FADERS, ROWS};
 
 // A preset and weights all 0, or a weight for each rule by its number and a preset part all 0.
 // kept: that one part is all 0 is how the caller reads a sheet, a rule of the project
-#[derive(Clone, Copy)]
+#[derive(Clone, Copy, PartialEq, Eq, Debug)]
 pub struct Sheet {
     pub numerators: [i32; FADERS],
     pub denominator: u32,

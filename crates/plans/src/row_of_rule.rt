@@ -36,6 +36,7 @@ fn widened(coefficients: &[i16; FADERS]) -> [i32; FADERS]
     ensures within { EachWithin result }
 {
     let mut wide = [0; FADERS];
+    // kept: of `coefficients.map(i32::from)` a proof knows the values, and not that each is within G
     for (k, coefficient) in coefficients.iter().enumerate() {
         wide[k] = *coefficient as i32;
     }

@@ -7,10 +7,7 @@ use std::test::Fail;
 
 // 0 where the call was taken.
 fn number(reply: Result<(), Refusal>) -> u8 {
-    match reply {
-        Ok(()) => 0,
-        Err(refusal) => refusal.number(),
-    }
+    reply.err().map_or(0, |refusal| refusal.number())
 }
 
 // A desk with two faders, and the rule that the first is below 40.

@@ -100,6 +100,7 @@ pub fn read_commands(bytes: &[u8], commands: &mut [Command]) -> Reading
                 stopped: Some(Refusal::TooLong),
             };
         }
+        // kept: the commands before a refusal count, so that no `?` ends here
         match read_command(rest) {
             Ok((command, after)) => {
                 commands[count] = command;

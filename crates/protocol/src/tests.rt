@@ -21,18 +21,12 @@ const EXAMPLE: [u8; 77] = [
 
 // Whether the bytes are this command and no more.
 fn reads(bytes: &[u8], expected: Command) -> bool {
-    match read_command(bytes) {
-        Ok((command, rest)) => command == expected && rest.is_empty(),
-        Err(_) => false,
-    }
+    read_command(bytes).is_ok_and(|(command, rest)| command == expected && rest.is_empty())
 }
 
 // Whether the bytes are refused with this number.
 fn refuses(bytes: &[u8], number: u8) -> bool {
-    match read_command(bytes) {
-        Ok(_) => false,
-        Err(refusal) => refusal.number() == number,
-    }
+    read_command(bytes).is_err_and(|refusal| refusal.number() == number)
 }
 
 // Whether so many commands are read, and reading stops with this number, or with 0 at the end.

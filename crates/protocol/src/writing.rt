@@ -61,6 +61,7 @@ impl Line {
     }
 
     // A space, and the decimal digits of a number after its sign.
+    // kept: sign and size apart, since an i32 and a u32 are written, and a wider number would have to be held against both bounds
     pub(crate) fn push_number(&mut self, negative: bool, size: u32)
         requires { self.old.len + most_item ≤ most_line }
         ensures { AppendsFew self.old (32 ∷ (sign_text negative ++ decimal size)) most_item self.new }

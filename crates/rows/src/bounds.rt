@@ -28,10 +28,11 @@ pub fn narrow(z: i64) -> Option<i32>
     Some(z as i32)
 }
 
-// Whether all the numbers are.
+// Whether all the numbers are from -G to G.
 pub fn all_within(numbers: &[i32]) -> bool
     ensures { Decides result (EachWithin numbers.now) }
 {
+    // kept: of `numbers.iter().all(..)` a proof does not know that each number fits its type
     for z in numbers {
         if !within(*z) {
             return false;

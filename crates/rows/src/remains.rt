@@ -31,6 +31,7 @@ impl Preset {
         ensures { result ≡ scale (pos factor) self.now.numerators }
     {
         let mut numerators = [0; FADERS];
+        // kept: with `map` the proof did not close, which has to see the factor through its cast
         for (i, numerator) in self.numerators.iter().enumerate() {
             numerators[i] = product(factor as i32, *numerator);
         }
