@@ -84,12 +84,7 @@ fn first_negative(weights: &Weights, rows: &[Row]) -> Option<usize>
 fn first_column(weights: &Weights, rows: &[Row]) -> Option<usize>
     ensures { MatchOption result ((k : ℕ) → column_of weights.now.values (constraints rows.now) k ≡ pos 0) (λ k. FirstColumn weights.now.values (constraints rows.now) k) }
 {
-    for k in 0..FADERS {
-        if column(weights, rows, k) != 0 {
-            return Some(k);
-        }
-    }
-    None
+    (0..FADERS).find(|k| column(weights, rows, *k) != 0)
 }
 
 // Whether a row of this kind makes the sum strict by this weight.
