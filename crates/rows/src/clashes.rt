@@ -34,6 +34,7 @@ fn part_of(row: &Row, part: Part) -> i32
 }
 
 // Weights times that number of each row, added. Sixteen products within G times G do not fit i64.
+// kept: a sum in i128 over the rows, beside the one of a preset in i64 over the faders of one row; they share `product`
 fn weighted_sum(weights: &Weights, rows: &[Row], part: Part) -> i128
     ensures { result ≡ dot weights.now.values (numbers part (constraints rows.now)) }
 {
