@@ -6,6 +6,7 @@ use crate::bounding::Bounding;
 use crate::table::ROOM;
 
 // At most one limit for each row of a table.
+// kept: fixed memory; the first best is chosen from a slice of it
 #[derive(Drop)]
 pub struct Found<S> {
     pub limits: [Bounding<S>; ROOM],

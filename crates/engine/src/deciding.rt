@@ -42,6 +42,7 @@ fn read_preset<E: Engine>(engine: &E, denominator: u32) -> Result<Preset, Refusa
 }
 
 // The weights that the engine holds for its rows.
+// kept: how many rows there are goes beside the engine, which has no call that tells it
 fn read_weights<E: Engine>(engine: &E, rows: usize) -> Result<Weights, Refusal>
     requires few { rows ≤ most_rows }
     requires held { length (E.Engine.view engine.now).rows ≡ rows }

@@ -26,15 +26,8 @@ impl State {
     pub fn settle(&mut self, found: Result<Answer, Fault>) -> Result<(), Refusal>
         ensures { Settled found (state_view self.old) result (state_view self.new) }
     {
-        match found {
-            Ok(answer) => {
-                self.answer = Some(answer);
-                Ok(())
-            }
-            Err(fault) => {
-                self.answer = None;
-                Err(Refusal::TooLarge(fault))
-            }
-        }
+        self.answer = None;
+        self.answer = Some(found.map_err(Refusal::TooLarge)?);
+        Ok(())
     }
 }

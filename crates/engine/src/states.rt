@@ -25,7 +25,7 @@ impl State {
     pub fn start(&mut self, count: u8) -> Result<(), Refusal>
         ensures { Started count (state_view self.old) result (state_view self.new) }
     {
-        if count == 0 || count as usize > FADERS {
+        if !(1..=FADERS as u8).contains(&count) {
             return Err(Refusal::BadCount);
         }
         self.count = count;

@@ -1,6 +1,6 @@
 -- What a loop over the rows reads, and the first of a list that fails. Assumes nothing.
 use Rattle.std.proofs.Common.{◌≡◌, ℕ, zero, suc, ◌<◌, Bool, true, false, not, List, [], ◌∷◌, map, length, get_or, Option, Some, None, refl, sym, ap, ◌∙◌, arith}
-use Rattle.std.specs.Option.{MatchOption, is_some}
+use Rattle.std.specs.Option.{MatchOption, IsSomeAnd, is_some}
 use Rattle.std.specs.Bool.{Decides}
 use Rattle.std.proofs.lemmas.Bool.{false≢true}
 use Rattle.std.specs.List.{AllByRecursion as All, AllWithin, HoldsAt}
@@ -44,3 +44,9 @@ none_decides None true m f e = ((λ _. m), λ _. refl)
 none_decides None false m f e = absurd (false≢true e)
 none_decides (Some i) true m f e = absurd (false≢true (sym e))
 none_decides (Some i) false m f e = ((λ h. absurd (false≢true h)), λ a. absurd (f i m a))
+
+-- a place that was found, in a narrower type: as it was, since it lies in the list
+pub same_place : {X : Type 0} (Yes No : X → Type 0) (xs : List X) (R : ℕ → ℕ → Type 0) (o m : Option ℕ) → MatchOption o (AllWithin No xs 0 (length xs)) (λ i. (i < length xs) × HoldsAt Yes xs i × AllWithin No xs 0 i) → MatchOption o (m ≡ None) (λ i. IsSomeAnd m (R i)) → ((i j : ℕ) → i < length xs → R i j → j ≡ i) → m ≡ o
+same_place Yes No xs R None m found e same = e
+same_place Yes No xs R (Some i) None found e same = absurd e
+same_place Yes No xs R (Some i) (Some j) found e same = ap (λ (k : ℕ). Some k) (same i j found.0 e)

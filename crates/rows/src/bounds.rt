@@ -15,23 +15,21 @@ pub const ROWS: usize = 16;
 pub fn within(z: i32) -> bool
     ensures { Decides result (Within z) }
 {
-    -G <= z && z <= G
+    (-G..=G).contains(&z)
 }
 
 // The number in the narrow type; none where it is beyond G.
 pub fn narrow(z: i64) -> Option<i32>
     ensures { result ≡ narrowed z }
 {
-    if z < -(G as i64) || z > G as i64 {
-        return None;
-    }
-    Some(z as i32)
+    i32::try_from(z).ok().filter(|z| within(*z))
 }
 
-// Whether all the numbers are.
+// Whether all the numbers are from -G to G.
 pub fn all_within(numbers: &[i32]) -> bool
     ensures { Decides result (EachWithin numbers.now) }
 {
+    // kept: of `numbers.iter().all(..)` a proof does not know that each number fits its type
     for z in numbers {
         if !within(*z) {
             return false;

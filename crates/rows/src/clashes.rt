@@ -34,6 +34,7 @@ fn part_of(row: &Row, part: Part) -> i32
 }
 
 // Weights times that number of each row, added. Sixteen products within G times G do not fit i64.
+// kept: a sum in i128 over the rows, beside the one of a preset in i64 over the faders of one row; they share `product`
 fn weighted_sum(weights: &Weights, rows: &[Row], part: Part) -> i128
     ensures { result ≡ dot weights.now.values (numbers part (constraints rows.now)) }
 {
@@ -84,12 +85,7 @@ fn first_negative(weights: &Weights, rows: &[Row]) -> Option<usize>
 fn first_column(weights: &Weights, rows: &[Row]) -> Option<usize>
     ensures { MatchOption result ((k : ℕ) → column_of weights.now.values (constraints rows.now) k ≡ pos 0) (λ k. FirstColumn weights.now.values (constraints rows.now) k) }
 {
-    for k in 0..FADERS {
-        if column(weights, rows, k) != 0 {
-            return Some(k);
-        }
-    }
-    None
+    (0..FADERS).find(|k| column(weights, rows, *k) != 0)
 }
 
 // Whether a row of this kind makes the sum strict by this weight.

@@ -66,9 +66,8 @@ fn blend<const N: usize>(m: Factor, xs: &[i32; N], n: Factor, ys: &[i32; N]) -> 
     ensures { MatchOption result (all_near (add (scale m.value xs.now) (scale n.value ys.now)) ≡ false) (λ zs. (all_near (add (scale m.value xs.now) (scale n.value ys.now)) ≡ true) × (zs ≡ add (scale m.value xs.now) (scale n.value ys.now))) }
 {
     let mut out = [0; N];
-    // kept: of `out.iter_mut().zip(..)` a proof does not know what was written, and `array::try_from_fn` asks how large [i32; N] is
-    for i in 0..N {
-        out[i] = blended(m, xs[i], n, ys[i])?;
+    for (i, z) in out.iter_mut().enumerate() {
+        *z = blended(m, xs[i], n, ys[i])?;
     }
     Some(out)
 }

@@ -13,6 +13,7 @@ pub struct Fader {
 
 impl Fader {
     // The fader with this number; none where there is none.
+    // kept: `if` and not `then_some`, whose fader would be made, and its invariant shown, also where there is none
     pub fn new(index: u8) -> Option<Fader>
         ensures { MatchOption result (faders ≤ index) (λ f. f.index ≡ index) }
     {

@@ -23,8 +23,8 @@ fn divided(numbers: &[i64; FADERS], divisor: u64) -> Option<[i32; FADERS]>
     ensures { MatchOption result (all_near (divided divisor numbers.now) ≡ false) (λ zs. (all_near (divided divisor numbers.now) ≡ true) × (zs ≡ divided divisor numbers.now)) }
 {
     let mut out = [0; FADERS];
-    for (k, number) in numbers.iter().enumerate() {
-        out[k] = narrow(quotient(*number, divisor))?;
+    for (k, z) in out.iter_mut().enumerate() {
+        *z = narrow(quotient(numbers[k], divisor))?;
     }
     Some(out)
 }

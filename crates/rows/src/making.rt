@@ -1,4 +1,5 @@
 // How rows, presets and weights are made: each number is held against its bound. Assumes nothing.
+// kept: `if` and not `then_some`, whose value would be made, and its invariant shown, also where a number is beyond its bound
 ghost use Rattle.std.specs.Prelude.{◌≡◌, ◌<◌, ◌≤◌, true, false, replicate, pos, MatchOption};
 ghost use Rattle.rows.specs.Limits.{largest, faders, Within, EachWithin};
 ghost use Rattle.rows.specs.declared.kind.Kind.TheVariants.{AtMost};

@@ -31,8 +31,8 @@ impl Preset {
         ensures { result ≡ scale (pos factor) self.now.numerators }
     {
         let mut numerators = [0; FADERS];
-        for (i, numerator) in self.numerators.iter().enumerate() {
-            numerators[i] = product(factor as i32, *numerator);
+        for (i, numerator) in numerators.iter_mut().enumerate() {
+            *numerator = product(factor as i32, self.numerators[i]);
         }
         numerators
     }

@@ -16,11 +16,10 @@ impl Row {
     pub fn first_unused(&self, count: u8) -> Option<u8>
         ensures { result ≡ first_unused count 0 self.now.coefficients }
     {
-        for (fader, coefficient) in self.coefficients.iter().enumerate() {
-            if is_unused(count, fader, *coefficient) {
-                return Some(fader as u8);
-            }
-        }
-        None
+        self.coefficients
+            .iter()
+            .enumerate()
+            .position(|(fader, coefficient)| is_unused(count, fader, *coefficient))
+            .map(|fader| fader as u8)
     }
 }

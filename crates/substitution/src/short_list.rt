@@ -7,6 +7,7 @@ use rows::ROWS;
 use std::marker::Model;
 
 // The first `len` items are the list. The others only fill the array.
+// kept: fixed memory, behind methods that show a list
 #[derive(Drop)]
 pub struct ShortList<T> {
     pub(crate) items: [T; ROWS],

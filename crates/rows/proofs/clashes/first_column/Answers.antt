@@ -1,27 +1,29 @@
-use Rattle.std.proofs.Common.{◌≡◌, ℤ, pos, sym, ap, ◌∙◌, inl, inr, arith, SFits, to_z, of_z, rules, below_more}
-use mir.Syntax.{w128}
-use Rattle.std.proofs.lemmas.Int.{to_z-of_z}
+use Rattle.std.proofs.Common.{◌≡◌, ℕ, ◌<◌, ◌≤◌, List, ℤ, pos, Option, Some, None, inl, inr, arith, rules}
+use borrow.Author.Tests.{tests}
+use Rattle.std.specs.Option.{MatchOption}
 use Rattle.std.proofs.lemmas.Bool.{cases_lt}
+use Rattle.std.proofs.lemmas.Iterator.{first_from_Range}
+use Rattle.rows.specs.declared.row.Row.{Row}
+use Rattle.rows.specs.Limits.{faders}
+use Rattle.rows.specs.Rows.{constraints}
+use Rattle.rows.specs.Clashes.{column, FirstColumn}
 use Rattle.rows.proofs.Weighing.{column_past}
 use Rattle.rows.proofs.clashes.first_column.Goals as goal
 
--- a number whose bits are those of 0
-zero_bits : (z : ℤ) → SFits w128 z → of_z w128 z ≡ 0 → z ≡ pos 0
-zero_bits z f e = sym (to_z-of_z w128 z f) ∙ ap (to_z w128) e
+-- what is found among the six faders is found among all, since past them each column is 0
+module _ (ws : List ℤ) (rows : List Row) where
+  abbrev Zero : ℕ → Type 0
+  Zero k = column ws (constraints rows) k ≡ pos 0
 
-pub returns-then-column-ne0 : goal.returns-then-column-ne0
-returns-then-column-ne0 c = record {
-  here = λ e. c.if-column-ne0.true (ap (of_z w128) (c.column.ensures ∙ e));
-  before = c.loop-k.invariant;
-}
-
-pub loop-k-preserved : goal.loop-k-preserved
-loop-k-preserved c =
-    let f : SFits w128 c.column.result = search rules in
-    below_more _ _ c.loop-k.invariant (sym c.column.ensures ∙ zero_bits c.column.result f c.if-column-ne0.false)
+  among_all : (r : Option ℕ) → MatchOption r ((k : ℕ) → 0 ≤ k → k < faders → Zero k) (λ i. (0 ≤ i) × (i < faders) × (Zero i → ⊥) × ((k : ℕ) → 0 ≤ k → k < i → Zero k)) → MatchOption r ((k : ℕ) → Zero k) (FirstColumn ws (constraints rows))
+  among_all None all = λ k. elim (cases_lt k faders) [
+    | inl h ↦ all k (omega arith) h
+    | inr h ↦ column_past ws rows k h
+  ]
+  among_all (Some i) found = record { here = found.2; before = λ j h. found.3 j (omega arith) h }
 
 pub returns : goal.returns
-returns c k = elim (cases_lt k 6) [
-  | inl h ↦ c.loop-k.invariant k (omega arith)
-  | inr h ↦ column_past c.args.weights.now.values c.args.rows.now k h
-]
+returns c =
+    let ws = c.args.weights.now.values in
+    let rows = c.args.rows.now in
+    among_all ws rows c.find.result (first_from_Range _ _ _ c.find.result (λ k. Zero ws rows k → ⊥) (Zero ws rows) c.find.ensures.ran (λ x q k. search (rules, tests)) (λ x q k. search (rules, tests)))

@@ -5,6 +5,6 @@ use Rattle.rows.proofs.lowest.divided.Given as goal
 
 abbrev pub invariant-loop-k : goal.invariant-loop-k
 invariant-loop-k l =
-    (length l.out ≡ length l.numbers)
-    × (take l.k l.out ≡ take l.k (divided l.divisor l.numbers))
+    (length l.z-items ≡ length l.numbers)
+    × (take l.k l.z-items ≡ take l.k (divided l.divisor l.numbers))
     × (all_near (take l.k (divided l.divisor l.numbers)) ≡ true)

@@ -11,7 +11,7 @@ loop-i-preserved c =
     let d = c.args.factor in
     let ns = c.args.self.now.numerators in
     let i = c.loop-i.i in
-    let out = c.loop-i.numerators in
+    let out = c.loop-i.numerator-items in
     let n = get_or ns i (pos 0) in
     let f : SFits w32 n = fits_32 n (c.args.self.now.within i) in
     let g : SFits w64 c.product.result = search rules in
@@ -30,6 +30,6 @@ returns c =
     let d = c.args.factor in
     let ns = c.args.self.now.numerators in
     let l : length (scale (pos d) ns) ≡ length ns = length_scale (pos d) ns in
-    sym (take_all c.loop-i.i c.loop-i.numerators (omega (arith, c.loop-i.invariant.0)))
+    sym (take_all c.loop-i.i c.loop-i.numerator-items (omega (arith, c.loop-i.invariant.0)))
     ∙ c.loop-i.invariant.1
     ∙ take_all c.loop-i.i (scale (pos d) ns) (omega (arith, c.args.self.now.places))

@@ -1,23 +1,17 @@
-use Rattle.std.proofs.Common.{◌≡◌, true, false, get_or, pos, sym, ◌∙◌, arith}
-use Rattle.std.proofs.lemmas.Int.{to_z-of_z}
-use Rattle.rows.specs.Rows.{unused}
-use Rattle.rows.proofs.Fits.{fits_32}
-use Rattle.rows.proofs.UnusedFaders.{unused_at, unused_none}
+use Rattle.std.proofs.Common.{false, true, ◌<◌, sym, ◌∙◌, arith, rules}
+use borrow.Author.Tests.{tests}
+use Rattle.std.proofs.lemmas.Iterator.{IsFirst-from_position, YieldsList-from_slice}
+use Rattle.std.proofs.lemmas.Iterator.Consumers.{YieldsList-from_enumerate}
+use Rattle.std.proofs.lemmas.List.FromFn.{length-enumerate_from}
+use Rattle.std.specs.List.{enumerate_from}
+use Rattle.rows.proofs.Firsts.{same_place}
+use Rattle.rows.proofs.UnusedFaders.{Unused, first_unused_found}
 use Rattle.rows.proofs.row.Row.first_unused.Goals as goal
 
-pub returns-then-is_unused : goal.returns-then-is_unused
-returns-then-is_unused c =
-    let zs = c.args.self.now.coefficients in
-    let f = fits_32 (get_or zs c.loop-fader.fader (pos 0)) (c.args.self.now.within c.loop-fader.fader) in
-    let e : unused c.args.count c.loop-fader.fader (get_or zs c.loop-fader.fader (pos 0)) ≡ true = sym (simp to_z-of_z at c.is_unused.ensures) ∙ c.if-is_unused.true in
-    sym (unused_at c.args.count c.loop-fader.fader zs true (omega (arith, c.args.self.now.places)) e) ∙ c.loop-fader.invariant
-
-pub loop-fader-preserved : goal.loop-fader-preserved
-loop-fader-preserved c =
-    let zs = c.args.self.now.coefficients in
-    let f = fits_32 (get_or zs c.loop-fader.fader (pos 0)) (c.args.self.now.within c.loop-fader.fader) in
-    let e : unused c.args.count c.loop-fader.fader (get_or zs c.loop-fader.fader (pos 0)) ≡ false = sym (simp to_z-of_z at c.is_unused.ensures) ∙ c.if-is_unused.false in
-    sym (unused_at c.args.count c.loop-fader.fader zs false (omega (arith, c.args.self.now.places)) e) ∙ c.loop-fader.invariant
-
 pub returns : goal.returns
-returns c = sym (unused_none c.args.count c.loop-fader.fader c.args.self.now.coefficients (omega (arith, c.args.self.now.places))) ∙ c.loop-fader.invariant
+returns c =
+    let s = c.args.self.now in
+    let zs = s.coefficients in
+    let found = IsFirst-from_position c.position.new.self _ _ (Unused c.args.count true) (Unused c.args.count false) c.position.ensures.ran (YieldsList-from_enumerate (YieldsList-from_slice zs (search rules)) (search rules)) (λ x q k. search (rules, tests)) (λ x q k. search (rules, tests)) in
+    same_place (Unused c.args.count true) (Unused c.args.count false) (enumerate_from 0 zs) _ c.position.result c.map.result found c.map.ensures.cases (λ i j h k. let l = length-enumerate_from 0 zs in let six : i < 6 = omega (arith, h, l, s.places) in search (rules, tests, arith))
+    ∙ sym (first_unused_found c.args.count zs s.within c.position.result found)
