@@ -1,7 +1,8 @@
 // Takes words and numbers off the front of a text. Assumes nothing.
-ghost use Rattle.std.specs.Prelude.{◌≡◌, ◌<◌, [], ◌∷◌, length, IfSome, MatchOption};
+ghost use Rattle.std.specs.Prelude.{◌≡◌, ◌<◌, [], ◌∷◌, length, IfSome, MatchOption, MatchResult};
 ghost use Rattle.std.specs.Iterator.{YieldsFirst, item_count};
 ghost use Rattle.plantext.specs.Grammar.{words_of, front_numbers, after_numbers, held, one_number};
+ghost use Rattle.plantext.specs.declared.problem.Problem.TheVariants.{NoStatement};
 
 use crate::cut::first_word;
 use crate::numbers::Numbers;
@@ -60,6 +61,15 @@ pub fn after_numbers(text: &[u8]) -> &[u8]
     rest
 }
 
+// A text without words.
+pub fn nothing_follows(text: &[u8]) -> Result<(), Problem>
+    ensures { MatchResult result (λ _. words_of text.now ≡ []) (λ e. (e ≡ NoStatement) × (words_of text.now ≡ [] → ⊥)) }
+{
+    Words(text)
+        .next()
+        .map_or(Ok(()), |_| Err(Problem::NoStatement))
+}
+
 // A text that is one number.
 pub fn one_number(text: &[u8]) -> Result<i64, Problem>
     ensures { result ≡ one_number (words_of text.now) }
@@ -67,8 +77,6 @@ pub fn one_number(text: &[u8]) -> Result<i64, Problem>
     let Some((Ok(Word::Number(n)), rest)) = next_word(text) else {
         return Err(Problem::NoStatement);
     };
-    match next_word(rest) {
-        None => Ok(n),
-        Some(_) => Err(Problem::NoStatement),
-    }
+    nothing_follows(rest)?;
+    Ok(n)
 }
