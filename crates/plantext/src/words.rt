@@ -42,10 +42,9 @@ pub fn front_numbers(text: &[u8]) -> Result<Numbers, Problem>
     ensures { result ≡ held (front_numbers (words_of text.now)) }
 {
     let mut numbers = Numbers::new();
-    let mut rest = text;
-    while let Some((Ok(Word::Number(n)), after)) = next_word(rest) {
+    for word in Words(text) {
+        let Ok(Word::Number(n)) = word else { break };
         numbers.push(n)?;
-        rest = after;
     }
     Ok(numbers)
 }
@@ -54,6 +53,7 @@ pub fn front_numbers(text: &[u8]) -> Result<Numbers, Problem>
 pub fn after_numbers(text: &[u8]) -> &[u8]
     ensures { words_of result.now ≡ after_numbers (words_of text.now) }
 {
+    // kept: an iterator of words takes the word after the numbers too, and this text begins with that word
     let mut rest = text;
     while let Some((Ok(Word::Number(_)), after)) = next_word(rest) {
         rest = after;
