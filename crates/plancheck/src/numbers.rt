@@ -40,10 +40,9 @@ fn each<T: Copy + Default, const N: usize, F: Fn(i64) -> Option<T>>(
 fn coefficient(z: i64) -> Option<i16>
     ensures { result ≡ bounded coefficient_range z }
 {
-    if z < -(COEFFICIENT as i64) || z > COEFFICIENT as i64 {
-        return None;
-    }
-    Some(z as i16)
+    i16::try_from(z)
+        .ok()
+        .filter(|z| (-COEFFICIENT..=COEFFICIENT).contains(z))
 }
 
 // The coefficients of a rule, or the place of the first that is out of range.
@@ -64,8 +63,5 @@ pub fn narrow_each<const N: usize>(values: &[i64; N]) -> Result<[i32; N], usize>
 pub fn denominator_of(z: i64) -> Option<u32>
     ensures { result ≡ whole_denominator z }
 {
-    if z < 1 || z > G as i64 {
-        return None;
-    }
-    Some(z as u32)
+    u32::try_from(z).ok().filter(|d| (1..=G as u32).contains(d))
 }

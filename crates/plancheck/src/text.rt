@@ -20,6 +20,7 @@ pub fn ending(n: usize) -> &'static str {
 }
 
 // The sign of a comparison.
+// kept: `Kind` is of the crate `rows`, so `Display` for it cannot be given here, and the box writes no text
 fn sign(kind: Kind) -> &'static str {
     match kind {
         Kind::AtMost => "<=",

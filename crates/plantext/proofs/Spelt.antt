@@ -1,33 +1,28 @@
 -- The digits of a number, its value and its sign. Assumes nothing.
-use Rattle.std.proofs.Common.{◌≡◌, ℕ, ◌+◌, ◌-◌, ◌*◌, ◌<◌, ◌≤◌, Bool, true, ◌&&◌, List, [], ◌∷◌, length, get_or, take, refl, ap, arith, length-take}
-use Rattle.std.proofs.lemmas.Int.Digits.{digits_value_more, digits_more}
-use Rattle.std.proofs.lemmas.Str.Parse.{IsNumeralModel, numerals_by_value, tells_all_ascii_digits, tells_digits, digit_at, digits_value_short}
-use Rattle.std.proofs.lemmas.Str.{digit_value_digit}
-use Rattle.std.specs.Str.Parse.{digits_value, AllDigits}
-use Rattle.std.specs.Int.{IsInRange}
+use Rattle.std.proofs.Common.{◌≡◌, ℕ, zero, suc, ◌<◌, ◌≤◌, Bool, true, ◌&&◌, List, [], ◌∷◌, length, Ok, Result, refl, ap, arith}
+use Rattle.std.proofs.lemmas.Str.Parse.{IsNumeralModel, numerals_by_value, tells_all_ascii_digits, digit_from_value, digits_value_short, parse_gives}
+use Rattle.std.specs.Str.Parse.{digits_value, AllDigits, ParsesUnsigned}
 use Rattle.std.specs.Char.{is_ascii_digit}
 use Rattle.std.specs.List.{list_all}
-use Rattle.std.specs.Str.{all_ascii_digits}
+use Rattle.std.specs.Str.{IsAscii, all_ascii_digits}
 
 pub own : IsNumeralModel (λ ds. all_ascii_digits ds ≡ true) (digits_value 10)
 own = numerals_by_value _ tells_all_ascii_digits
 
--- a byte of digits is a digit
-pub digit_in : (ds : List ℕ) (i : ℕ) → all_ascii_digits ds ≡ true → i < length ds → IsInRange 48 57 (get_or ds i 0)
-digit_in ds i all h = digit_at ds i (own.to ds all) h
+-- digits are ASCII
+each_ascii : (ds : List ℕ) → AllDigits 10 ds → IsAscii ds
+each_ascii [] all i = omega arith
+each_ascii (d ∷ ds) all zero = omega (arith, digit_from_value d all.0)
+each_ascii (d ∷ ds) all (suc i) = each_ascii ds all.1 i
 
--- the value of at most twelve digits
-pub value_small : (ds : List ℕ) (i : ℕ) → AllDigits 10 (take i ds) → i ≤ 12 → digits_value 10 (take i ds) < 1000000000000
-value_small ds i all h = digits_value_short (numerals_by_value (AllDigits 10) tells_digits) (take i ds) 12 all (simp length-take (omega arith))
+pub digits_ascii : (ds : List ℕ) → all_ascii_digits ds ≡ true → IsAscii ds
+digits_ascii ds all = each_ascii ds (own.to ds all)
 
-pub value_next : (ds : List ℕ) (i : ℕ) → all_ascii_digits ds ≡ true → i < length ds → digits_value 10 (take (i + 1) ds) ≡ digits_value 10 (take i ds) * 10 + (get_or ds i 0 - 48)
-value_next ds i all h = let d = digit_value_digit (get_or ds i 0) (digit_in ds i all h) in omega (arith, digits_value_more 10 ds i h)
-
-pub digits_next : (ds : List ℕ) (i : ℕ) → all_ascii_digits ds ≡ true → i < length ds → AllDigits 10 (take i ds) → AllDigits 10 (take (i + 1) ds)
-digits_next ds i all h so =
-    let b = digit_in ds i all h in
-    let d = digit_value_digit (get_or ds i 0) b in
-    digits_more 10 ds i h so (omega arith)
+-- one to twelve digits parse, and their value is small
+pub parsed : {E : Type 0} (ds : List ℕ) (r : Result ℕ E) → ParsesUnsigned 64 10 ds r → all_ascii_digits ds ≡ true → 0 < length ds → length ds ≤ 12 → (r ≡ Ok (digits_value 10 ds)) × (digits_value 10 ds < 1000000000000)
+parsed ds r h all some few =
+    let small = digits_value_short own ds 12 all few in
+    (parse_gives own 64 ds r h all some (omega (arith, small)), omega (arith, small))
 
 -- the test of each byte
 pub all_digits_is : (ds : List ℕ) → list_all is_ascii_digit ds ≡ all_ascii_digits ds

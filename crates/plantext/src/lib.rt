@@ -1,4 +1,5 @@
-// The readable text of a plan and of claimed answers: a text's bytes to lines, a line's bytes to words, words to a statement. It sees the standard library, and of the crate `rows` the kinds of comparison.
+// The readable text of a plan and of claimed answers: a text's bytes to lines, a line's bytes to words, words to a statement. It sees of
+// the crate `rows` the kinds of comparison, and nothing of the crate `integers`, on which `rows` builds.
 #![tactic(auto)]
 
 pub mod cut;

@@ -1,6 +1,5 @@
 // Reads the bytes of one word. Assumes nothing.
-ghost use Rattle.std.specs.Prelude.{◌≡◌, ◌<◌, ◌≤◌, true, length, IfOk};
-ghost use Rattle.std.specs.Str.Parse.{digits_value};
+ghost use Rattle.std.specs.Prelude.{◌≡◌, ◌<◌, IfOk};
 ghost use Rattle.std.specs.Str.{all_ascii_digits};
 ghost use Rattle.plantext.specs.Spelling.{magnitude, number_word, word_of};
 
@@ -16,20 +15,6 @@ fn all_digits(bytes: &[u8]) -> bool
     bytes.iter().all(|b| b.is_ascii_digit())
 }
 
-// The number that decimal digits write.
-fn value_of(digits: &[u8]) -> u64
-    requires short { length digits.now ≤ 12 }
-    requires digits { all_ascii_digits digits.now ≡ true }
-    ensures value { result ≡ digits_value 10 digits.now }
-    ensures bound { result < 1000000000000 }
-{
-    let mut n = 0;
-    for b in digits {
-        n = n * 10 + u64::from(*b - b'0');
-    }
-    n
-}
-
 // The number after a sign.
 fn magnitude(digits: &[u8]) -> Result<u64, Misspelling>
     ensures value { result ≡ magnitude digits.now }
@@ -41,7 +26,7 @@ fn magnitude(digits: &[u8]) -> Result<u64, Misspelling>
     if digits.len() > MOST_DIGITS {
         return Err(Misspelling::TooLong);
     }
-    Ok(value_of(digits))
+    Ok(str::from_utf8(digits).unwrap().parse().unwrap())
 }
 
 // The word of a number, with or without a sign.

@@ -7,7 +7,7 @@ use crate::cut::uncommented;
 use crate::problem::Problem;
 use crate::statement::Statement;
 use crate::word::Word;
-use crate::words::{Words, after_numbers, front_numbers, next_word, one_number};
+use crate::words::{Words, after_numbers, front_numbers, next_word, nothing_follows, one_number};
 
 // Whether all words of a text are known.
 fn check_words(text: &[u8]) -> Result<(), Problem>
@@ -47,10 +47,8 @@ fn read_preset(text: &[u8]) -> Result<Statement, Problem>
 fn read_clash(text: &[u8]) -> Result<Statement, Problem>
     ensures { result ≡ clash (front_numbers (words_of text.now)) (after_numbers (words_of text.now)) }
 {
-    match next_word(after_numbers(text)) {
-        None => Ok(Statement::Clash(front_numbers(text)?)),
-        Some(_) => Err(Problem::NoStatement),
-    }
+    nothing_follows(after_numbers(text))?;
+    Ok(Statement::Clash(front_numbers(text)?))
 }
 
 // A text whose words are all known.

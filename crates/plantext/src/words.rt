@@ -1,7 +1,8 @@
 // Takes words and numbers off the front of a text. Assumes nothing.
-ghost use Rattle.std.specs.Prelude.{◌≡◌, ◌<◌, [], ◌∷◌, length, IfSome, MatchOption};
+ghost use Rattle.std.specs.Prelude.{◌≡◌, ◌<◌, [], ◌∷◌, length, IfSome, MatchOption, MatchResult};
 ghost use Rattle.std.specs.Iterator.{YieldsFirst, item_count};
 ghost use Rattle.plantext.specs.Grammar.{words_of, front_numbers, after_numbers, held, one_number};
+ghost use Rattle.plantext.specs.declared.problem.Problem.TheVariants.{NoStatement};
 
 use crate::cut::first_word;
 use crate::numbers::Numbers;
@@ -41,10 +42,9 @@ pub fn front_numbers(text: &[u8]) -> Result<Numbers, Problem>
     ensures { result ≡ held (front_numbers (words_of text.now)) }
 {
     let mut numbers = Numbers::new();
-    let mut rest = text;
-    while let Some((Ok(Word::Number(n)), after)) = next_word(rest) {
+    for word in Words(text) {
+        let Ok(Word::Number(n)) = word else { break };
         numbers.push(n)?;
-        rest = after;
     }
     Ok(numbers)
 }
@@ -53,11 +53,21 @@ pub fn front_numbers(text: &[u8]) -> Result<Numbers, Problem>
 pub fn after_numbers(text: &[u8]) -> &[u8]
     ensures { words_of result.now ≡ after_numbers (words_of text.now) }
 {
+    // kept: an iterator of words takes the word after the numbers too, and this text begins with that word
     let mut rest = text;
     while let Some((Ok(Word::Number(_)), after)) = next_word(rest) {
         rest = after;
     }
     rest
+}
+
+// A text without words.
+pub fn nothing_follows(text: &[u8]) -> Result<(), Problem>
+    ensures { MatchResult result (λ _. words_of text.now ≡ []) (λ e. (e ≡ NoStatement) × (words_of text.now ≡ [] → ⊥)) }
+{
+    Words(text)
+        .next()
+        .map_or(Ok(()), |_| Err(Problem::NoStatement))
 }
 
 // A text that is one number.
@@ -67,8 +77,6 @@ pub fn one_number(text: &[u8]) -> Result<i64, Problem>
     let Some((Ok(Word::Number(n)), rest)) = next_word(text) else {
         return Err(Problem::NoStatement);
     };
-    match next_word(rest) {
-        None => Ok(n),
-        Some(_) => Err(Problem::NoStatement),
-    }
+    nothing_follows(rest)?;
+    Ok(n)
 }

@@ -3,11 +3,8 @@ use Rattle.std.proofs.Common.{◌≡◌, ◌≤◌, ◌++◌, length}
 use Rattle.plantext.specs.Grammar.{words_of, front_numbers}
 use Rattle.plantext.proofs.words.front_numbers.Given as goal
 
-abbrev pub invariant-loop-n : goal.invariant-loop-n
-invariant-loop-n l = record {
+abbrev pub invariant-loop-word : goal.invariant-loop-word
+invariant-loop-word l = record {
   room : length l.numbers ≤ 16;
-  all : l.numbers ++ front_numbers (words_of l.rest) ≡ front_numbers (words_of l.text);
+  all : l.numbers ++ front_numbers (words_of l.word-iterator.0.now) ≡ front_numbers (words_of l.text);
 }
-
-abbrev pub decreases-loop-n : goal.decreases-loop-n
-decreases-loop-n l = length l.rest
