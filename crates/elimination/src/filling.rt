@@ -23,8 +23,8 @@ fn fill(cells: &mut [Cell], rows: &[Row])
     requires { length rows.now ≤ length cells.old }
     ensures { lines (take (length rows.now) cells.new) ≡ carried 0 (constraints rows.now) }
 {
-    for (i, row) in rows.iter().enumerate() {
-        cells[i] = Cell::listed(row, i);
+    for (i, cell) in cells[..rows.len()].iter_mut().enumerate() {
+        *cell = Cell::listed(&rows[i], i);
     }
 }
 
