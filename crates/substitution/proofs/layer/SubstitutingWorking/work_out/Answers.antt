@@ -3,7 +3,7 @@ use Rattle.engine.specs.declared.answer.Answer.TheVariants.{Clash}
 use Rattle.substitution.specs.declared.stop.Stop.{Stop}
 use Rattle.substitution.specs.Reduction.{Reduced.clashing, Reduced.faulty, Reduced.left}
 use Rattle.substitution.specs.Holding.{kepts, latest_first}
-use Rattle.substitution.specs.Outcomes.{finished}
+use Rattle.substitution.specs.Reducing.{finished}
 use Rattle.substitution.proofs.Returning.{left_valid, worked_out}
 use Rattle.substitution.proofs.layer.SubstitutingWorking.work_out.Goals as goal
 
