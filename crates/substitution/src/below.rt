@@ -16,6 +16,7 @@ use crate::lifting::lift;
 use crate::short_list::ShortList;
 use engine::{Answer, Engine, Fault, Refusal, decide_rows};
 use rows::Row;
+use rows::list::RowList;
 
 // A fault from below, one layer up.
 fn raise(fault: Fault) -> Fault
@@ -64,16 +65,15 @@ fn fault_of(refusal: Refusal) -> Fault
     }
 }
 
-// What was said of the rows that are left, brought back to a list of so many rows: levels completed by the pivots, weights lifted, or a fault raised.
+// What was said of the rows that are left, brought back to the list: levels completed by the pivots, weights lifted, or a fault raised.
 fn bring_back(
     said: Result<Answer, Fault>,
     left: &[Kept],
     pivots: &[Pivot],
-    listed: usize,
+    listed: &RowList,
 ) -> Result<Answer, Fault>
-    requires verdict { (below : Verdict) × Says (length left.now) below said }
-    requires few { listed ≤ most_rows }
-    ensures { (below : Verdict) → Says (length left.now) below said → Says listed (lifted listed (kepts left.now) (latest_first pivots.now []) below) result }
+    requires { (below : Verdict) × Says (length left.now) below said }
+    ensures { (below : Verdict) → Says (length left.now) below said → Says listed.now.len (lifted listed.now.len (kepts left.now) (latest_first pivots.now []) below) result }
 {
     match said.map_err(raise)? {
         Answer::Preset(levels) => Ok(Answer::Preset(complete_all(pivots, &levels)?)),
@@ -87,13 +87,12 @@ pub fn decide_left<E: Engine>(
     count: u8,
     left: &[Kept],
     pivots: &[Pivot],
-    listed: usize,
+    listed: &RowList,
     table: &mut [E::Cell],
 ) -> Result<Answer, Fault>
     requires valid { Valid count (map handed_down (kepts left.now)) }
-    requires few { listed ≤ most_rows }
     requires room { E.Engine.cells ≤ length table.old }
-    ensures { Says listed (lifted listed (kepts left.now) (latest_first pivots.now []) (E.Engine.verdict count (map handed_down (kepts left.now)))) result }
+    ensures { Says listed.now.len (lifted listed.now.len (kepts left.now) (latest_first pivots.now []) (E.Engine.verdict count (map handed_down (kepts left.now)))) result }
 {
     let rows = hand_down(left);
     let said = decide_rows(below, count, rows.as_slice(), table).map_err(fault_of);

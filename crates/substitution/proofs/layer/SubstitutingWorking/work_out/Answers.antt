@@ -17,7 +17,7 @@ pub returns-in-Ok : goal.returns-in-Ok
 returns-in-Ok g c =
     let s = c.args.state.now in
     let end = c.in-Ok.end in
-    let says = rw (c.as_slice.ensures, c.as_slice-in-Ok.ensures, c.as_slice-rows.ensures.value) at c.decide_left.ensures in
+    let says = rw (c.as_slice.ensures, c.as_slice-in-Ok.ensures) at c.decide_left.ensures in
     worked_out s c.standing.result (left (kepts end.rows) (latest_first end.pivots [])) (rw c.as_slice-rows.ensures.value at c.standing.ensures) c.in-Ok.ensures.value g.E.Engine.verdict c.decide_left.result says
 
 pub returns-in-Err-Clash : goal.returns-in-Err-Clash
