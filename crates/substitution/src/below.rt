@@ -1,6 +1,5 @@
 // The rows that are left, decided by the engine below, and its answer brought back to the list. Assumes nothing.
 ghost use Rattle.std.specs.Prelude.{◌≡◌, ◌≤◌, [], map, length};
-ghost use Rattle.rows.specs.Limits.{most_rows};
 ghost use Rattle.rows.specs.Rows.{constraint, constraints};
 ghost use Rattle.engine.specs.declared.fault.Fault.{Fault};
 ghost use Rattle.engine.specs.declared.refusal.Refusal.TheVariants.{TooLarge};
@@ -43,12 +42,11 @@ impl Kept {
 }
 
 // The rows that are left, as they are handed down.
-fn hand_down(left: &[Kept]) -> ShortList<Row>
-    requires { length left.now ≤ most_rows }
+fn hand_down(left: &ShortList<Kept>) -> ShortList<Row>
     ensures { constraints result ≡ map handed_down (kepts left.now) }
 {
     let mut rows = ShortList::new(Row::zero());
-    for kept in left {
+    for kept in left.as_slice() {
         rows.push(kept.handed_down());
     }
     rows
@@ -85,7 +83,7 @@ fn bring_back(
 pub fn decide_left<E: Engine>(
     below: &mut E,
     count: u8,
-    left: &[Kept],
+    left: &ShortList<Kept>,
     pivots: &[Pivot],
     listed: &RowList,
     table: &mut [E::Cell],
@@ -96,5 +94,5 @@ pub fn decide_left<E: Engine>(
 {
     let rows = hand_down(left);
     let said = decide_rows(below, count, rows.as_slice(), table).map_err(fault_of);
-    bring_back(said, left, pivots, listed)
+    bring_back(said, left.as_slice(), pivots, listed)
 }

@@ -36,7 +36,7 @@ impl<E: Engine> Working for Substituting<E> {
             Ok(end) => decide_left(
                 &mut self.below,
                 state.count,
-                end.rows.as_slice(),
+                &end.rows,
                 end.pivots.as_slice(),
                 &state.rows,
                 table,

@@ -11,13 +11,13 @@ pub decide_left-requires-clause-valid : goal.decide_left-requires-clause-valid
 decide_left-requires-clause-valid g c =
     let s = c.args.state.now in
     let end = c.in-Ok.end in
-    rw c.as_slice.ensures (left_valid s c.standing.result (left (kepts end.rows) (latest_first end.pivots [])) (rw c.as_slice-rows.ensures.value at c.standing.ensures) c.in-Ok.ensures.value c.requires.started)
+    left_valid s c.standing.result (left (kepts end.rows) (latest_first end.pivots [])) (rw c.as_slice-rows.ensures.value at c.standing.ensures) c.in-Ok.ensures.value c.requires.started
 
 pub returns-in-Ok : goal.returns-in-Ok
 returns-in-Ok g c =
     let s = c.args.state.now in
     let end = c.in-Ok.end in
-    let says = rw (c.as_slice.ensures, c.as_slice-in-Ok.ensures) at c.decide_left.ensures in
+    let says = rw c.as_slice.ensures.items at c.decide_left.ensures in
     worked_out s c.standing.result (left (kepts end.rows) (latest_first end.pivots [])) (rw c.as_slice-rows.ensures.value at c.standing.ensures) c.in-Ok.ensures.value g.E.Engine.verdict c.decide_left.result says
 
 pub returns-in-Err-Clash : goal.returns-in-Err-Clash
