@@ -31,8 +31,7 @@ impl<E: Engine> Working for Substituting<E> {
     }
 
     fn work_out(&mut self, state: &State, table: &mut [E::Cell]) -> Result<Answer, Fault> {
-        let rows = state.rows.as_slice();
-        match reduce(standing(rows)) {
+        match reduce(standing(&state.rows)) {
             Ok(end) => decide_left(
                 &mut self.below,
                 state.count,
