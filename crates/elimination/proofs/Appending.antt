@@ -1,6 +1,6 @@
 -- The sums of pairs appended to a table, pair after pair. Assumes nothing.
 use Rattle.std.proofs.Common.{◌≡◌, ℕ, ◌+◌, ◌-◌, ◌<◌, ◌≤◌, Bool, true, false, cond, ltb, List, [], ◌∷◌, ◌++◌, map, length, get_or, take, drop, set, Ok, Err, Result, sym, refl, ap, ◌∙◌, subst, arith}
-use Rattle.std.proofs.lemmas.List.{append_assoc, append-nil, drop_more, drop_all, drop_at, drop-append-le, drop-map, take_all, take-take, take-append-drop, take-set, take_more_set, length-take-le, length-drop, length-set, length-map, map-append}
+use Rattle.std.proofs.lemmas.List.{drop_more, drop_all, drop_at, drop-append-le, drop-map, take-take, take-append-drop, take-set, take_more_set, length-take-le, length-drop, length-set, length-map, map-append}
 use Rattle.std.proofs.lemmas.Bool.{lt-ltb, le-ltb}
 use Rattle.engine.specs.declared.fault.Fault.{Fault}
 use Rattle.engine.specs.Verdicts.{number_beyond, table_full}

@@ -4,7 +4,6 @@ pub mod Working
 pub mod Sound
 pub mod Lines
 pub mod Appends
-pub mod Choosing
 pub mod Limiting
 pub mod Tightest
 pub mod Soundness

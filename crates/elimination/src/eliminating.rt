@@ -50,11 +50,10 @@ impl Working for FourierMotzkin {
     }
 
     fn work_out(&mut self, state: &State, table: &mut [Cell]) -> Result<Answer, Fault> {
-        let rows = state.rows.as_slice();
-        if let Some(i) = first_equation(rows) {
+        if let Some(i) = first_equation(state.rows.as_slice()) {
             return Err(Fault::new(Cause::FormNotTaken, i as u8));
         }
-        let mut filled = Table::filled(table, rows);
+        let mut filled = Table::filled(table, &state.rows);
         filled.eliminate_all(state.count)?;
         conclude(filled.rows(), state.count)
     }

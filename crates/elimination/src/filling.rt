@@ -1,6 +1,7 @@
 // The list of rows written into the table, and the form that is not taken.
 // Assumes, where a function requires it, that the table has room for the rows.
 ghost use Rattle.std.specs.Prelude.{◌≡◌, ◌≤◌, length, take};
+ghost use Rattle.rows.specs.Lists.{items};
 ghost use Rattle.rows.specs.Rows.{constraints};
 ghost use Rattle.elimination.specs.Table.{room};
 ghost use Rattle.elimination.specs.Working.{first_equation, carried};
@@ -9,6 +10,7 @@ ghost use Rattle.elimination.specs.Appends.{held_lines};
 
 use crate::cell::Cell;
 use crate::lent::Table;
+use rows::list::RowList;
 use rows::{Kind, Row};
 
 // The place of the first equation.
@@ -23,21 +25,21 @@ fn fill(cells: &mut [Cell], rows: &[Row])
     requires { length rows.now ≤ length cells.old }
     ensures { lines (take (length rows.now) cells.new) ≡ carried 0 (constraints rows.now) }
 {
-    for (i, row) in rows.iter().enumerate() {
-        cells[i] = Cell::listed(row, i);
+    for (i, cell) in cells[..rows.len()].iter_mut().enumerate() {
+        *cell = Cell::listed(&rows[i], i);
     }
 }
 
 impl<'a> Table<'a> {
     // The table that holds the rows of the list.
-    pub fn filled(cells: &'a mut [Cell], rows: &[Row]) -> Table<'a>
-        requires { (length rows.now ≤ room) × (room ≤ length cells.old) }
-        ensures { held_lines result ≡ carried 0 (constraints rows.now) }
+    pub fn filled(cells: &'a mut [Cell], rows: &RowList) -> Table<'a>
+        requires { room ≤ length cells.old }
+        ensures { held_lines result ≡ carried 0 (constraints (items rows.now)) }
     {
-        fill(cells, rows);
+        fill(cells, rows.as_slice());
         Table {
             cells,
-            held: rows.len(),
+            held: rows.len,
         }
     }
 

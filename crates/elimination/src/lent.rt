@@ -5,6 +5,7 @@ ghost use Rattle.elimination.specs.Table.{room};
 use crate::cell::Cell;
 
 // The rows stand in the first places; there is room for 256.
+// kept: fixed memory: the caller lends the places, and a count says how many of them hold rows
 #[derive(Drop)]
 pub struct Table<'a> {
     pub cells: &'a mut [Cell],

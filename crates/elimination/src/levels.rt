@@ -40,11 +40,13 @@ fn at_rest() -> Preset
 }
 
 // So many faders set; where a number is beyond G, the fault names the fader.
+// kept: that there are at most six faders is asked of the count here and where it is handed on, since a `State` holds it as a bare number
 pub fn all_set(table: &[Cell], count: u8) -> Result<Preset, Fault>
     requires { (count ≤ faders) × (length table.now ≤ room) }
     ensures { mapped_ok levels_of (λ f. f) result ≡ all_set count (lines table.now) at_rest }
 {
     let mut levels = at_rest();
+    // kept: the numbers are those of the faders, which stand in no list
     for index in (0..count).rev() {
         let setting = Setting {
             table,

@@ -84,6 +84,7 @@ impl Table<'_> {
         requires { count ≤ faders }
         ensures { MatchResult result (λ _. all_eliminated count 0 (held_lines self.old) ≡ Ok (held_lines self.new)) (λ f. all_eliminated count 0 (held_lines self.old) ≡ Err f) }
     {
+        // kept: the numbers are those of the faders, which stand in no list
         for index in 0..count {
             self.eliminate(Fader { index })?;
         }

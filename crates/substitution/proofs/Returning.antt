@@ -65,10 +65,9 @@ module _ (s : State) (held : List Held) (r : Reduced) (stands : kepts held ≡ k
       subst (HandsDown s.count) (sym came_to) (hands_down s.count (state_rows s) (used_valid s.count (items s.rows) started s.few (omega (arith, n, s.rows.short)) s.used))
 
   -- what it says is the verdict
-  pub worked_out : (below : ℕ → List Constraint → Verdict) (found : Result Kept Fault) → Says (length (items s.rows)) (decided below s.count (length (items s.rows)) r) found
+  pub worked_out : (below : ℕ → List Constraint → Verdict) (found : Result Kept Fault) → Says s.rows.len (decided below s.count s.rows.len r) found
       → Says s.rows.len (substitution_verdict below s.count (state_rows s)) found
   worked_out below found says =
-      let n : length (items s.rows) ≡ length (state_rows s) = sym (length-map (items s.rows) constraint) in
-      let whole = subst (λ (m : ℕ). Says m (decided below s.count m r) found) n says in
+      let whole = subst (λ (m : ℕ). Says m (decided below s.count m r) found) (sym (length_state_rows s)) says in
       subst (λ (m : ℕ). Says m (substitution_verdict below s.count (state_rows s)) found) (length_state_rows s)
       (subst (λ (x : Reduced). Says (length (state_rows s)) (decided below s.count (length (state_rows s)) x) found) came_to whole)

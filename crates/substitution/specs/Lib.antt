@@ -3,7 +3,7 @@ pub mod Lifting
 pub mod Working
 pub mod Sound
 pub mod Holding
-pub mod Outcomes
+pub mod Reducing
 pub mod Soundness
 pub mod Cancelling
 pub mod Tracing

@@ -1,6 +1,5 @@
 // The rows that are left, decided by the engine below, and its answer brought back to the list. Assumes nothing.
 ghost use Rattle.std.specs.Prelude.{◌≡◌, ◌≤◌, [], map, length};
-ghost use Rattle.rows.specs.Limits.{most_rows};
 ghost use Rattle.rows.specs.Rows.{constraint, constraints};
 ghost use Rattle.engine.specs.declared.fault.Fault.{Fault};
 ghost use Rattle.engine.specs.declared.refusal.Refusal.TheVariants.{TooLarge};
@@ -16,6 +15,7 @@ use crate::lifting::lift;
 use crate::short_list::ShortList;
 use engine::{Answer, Engine, Fault, Refusal, decide_rows};
 use rows::Row;
+use rows::list::RowList;
 
 // A fault from below, one layer up.
 fn raise(fault: Fault) -> Fault
@@ -42,12 +42,11 @@ impl Kept {
 }
 
 // The rows that are left, as they are handed down.
-fn hand_down(left: &[Kept]) -> ShortList<Row>
-    requires { length left.now ≤ most_rows }
+fn hand_down(left: &ShortList<Kept>) -> ShortList<Row>
     ensures { constraints result ≡ map handed_down (kepts left.now) }
 {
     let mut rows = ShortList::new(Row::zero());
-    for kept in left {
+    for kept in left.as_slice() {
         rows.push(kept.handed_down());
     }
     rows
@@ -64,16 +63,15 @@ fn fault_of(refusal: Refusal) -> Fault
     }
 }
 
-// What was said of the rows that are left, brought back to a list of so many rows: levels completed by the pivots, weights lifted, or a fault raised.
+// What was said of the rows that are left, brought back to the list: levels completed by the pivots, weights lifted, or a fault raised.
 fn bring_back(
     said: Result<Answer, Fault>,
     left: &[Kept],
     pivots: &[Pivot],
-    listed: usize,
+    listed: &RowList,
 ) -> Result<Answer, Fault>
-    requires verdict { (below : Verdict) × Says (length left.now) below said }
-    requires few { listed ≤ most_rows }
-    ensures { (below : Verdict) → Says (length left.now) below said → Says listed (lifted listed (kepts left.now) (latest_first pivots.now []) below) result }
+    requires { (below : Verdict) × Says (length left.now) below said }
+    ensures { (below : Verdict) → Says (length left.now) below said → Says listed.now.len (lifted listed.now.len (kepts left.now) (latest_first pivots.now []) below) result }
 {
     match said.map_err(raise)? {
         Answer::Preset(levels) => Ok(Answer::Preset(complete_all(pivots, &levels)?)),
@@ -85,17 +83,16 @@ fn bring_back(
 pub fn decide_left<E: Engine>(
     below: &mut E,
     count: u8,
-    left: &[Kept],
+    left: &ShortList<Kept>,
     pivots: &[Pivot],
-    listed: usize,
+    listed: &RowList,
     table: &mut [E::Cell],
 ) -> Result<Answer, Fault>
     requires valid { Valid count (map handed_down (kepts left.now)) }
-    requires few { listed ≤ most_rows }
     requires room { E.Engine.cells ≤ length table.old }
-    ensures { Says listed (lifted listed (kepts left.now) (latest_first pivots.now []) (E.Engine.verdict count (map handed_down (kepts left.now)))) result }
+    ensures { Says listed.now.len (lifted listed.now.len (kepts left.now) (latest_first pivots.now []) (E.Engine.verdict count (map handed_down (kepts left.now)))) result }
 {
     let rows = hand_down(left);
     let said = decide_rows(below, count, rows.as_slice(), table).map_err(fault_of);
-    bring_back(said, left, pivots, listed)
+    bring_back(said, left.as_slice(), pivots, listed)
 }

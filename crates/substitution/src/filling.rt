@@ -1,14 +1,16 @@
 // The list of rows as rows that stand, and what fills the places that are not used. Assumes nothing.
-ghost use Rattle.std.specs.Prelude.{◌≡◌, ◌≤◌, length, replicate, pos, slice_set};
+ghost use Rattle.std.specs.Prelude.{◌≡◌, replicate, pos, slice_set};
 ghost use Rattle.rows.specs.declared.kind.Kind.TheVariants.{AtMost};
 ghost use Rattle.rows.specs.Limits.{faders, most_rows};
 ghost use Rattle.rows.specs.Rows.{constraint, constraints};
+ghost use Rattle.rows.specs.Lists.{items};
 ghost use Rattle.rows.specs.Carrying.{listed};
 ghost use Rattle.substitution.specs.Reduction.{kept_rows};
 ghost use Rattle.substitution.specs.Holding.{kept_of, kepts, pivot_of};
 
 use crate::kept::{Kept, Pivot};
 use crate::short_list::ShortList;
+use rows::list::RowList;
 use rows::{Carried, FADERS, Fader, ROWS, Row};
 
 impl Kept {
@@ -51,12 +53,11 @@ impl Pivot {
 }
 
 // The rows of the list as rows that stand, each at its place.
-pub fn standing(rows: &[Row]) -> ShortList<Kept>
-    requires { length rows.now ≤ most_rows }
-    ensures { kepts result ≡ kept_rows 0 (constraints rows.now) }
+pub fn standing(rows: &RowList) -> ShortList<Kept>
+    ensures { kepts result ≡ kept_rows 0 (constraints (items rows.now)) }
 {
     let mut held = ShortList::new(Kept::blank());
-    for (place, row) in rows.iter().enumerate() {
+    for (place, row) in rows.as_slice().iter().enumerate() {
         held.push(Kept::listed(row, place));
     }
     held

@@ -1,7 +1,4 @@
 // The layer as an engine over any engine, by its working. Assumes nothing.
-ghost use Rattle.std.specs.Prelude.{◌≡◌, ◌<◌, ◌≤◌, [], length};
-ghost use Rattle.engine.specs.Interface.{none};
-ghost use Rattle.engine.specs.States.{state_view, state_rows, Says};
 ghost use Rattle.substitution.specs.Working.{substitution_verdict};
 ghost use Rattle.substitution.specs.Soundness.{sound_over};
 
@@ -34,14 +31,13 @@ impl<E: Engine> Working for Substituting<E> {
     }
 
     fn work_out(&mut self, state: &State, table: &mut [E::Cell]) -> Result<Answer, Fault> {
-        let rows = state.rows.as_slice();
-        match reduce(standing(rows)) {
+        match reduce(standing(&state.rows)) {
             Ok(end) => decide_left(
                 &mut self.below,
                 state.count,
-                end.rows.as_slice(),
+                &end.rows,
                 end.pivots.as_slice(),
-                rows.len(),
+                &state.rows,
                 table,
             ),
             Err(Stop::Clash(weights)) => Ok(Answer::Clash(weights)),

@@ -1,4 +1,4 @@
-// The layer that substitutes equations away, over any engine. It sees the crates `engine` and `integers`.
+// The layer that substitutes equations away, over any engine. It sees the crates `engine`, `rows` and `integers`.
 #![tactic(auto)]
 
 mod below;

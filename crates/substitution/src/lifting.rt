@@ -1,5 +1,5 @@
 // The weights of a clash below, brought back to the listed rows. Assumes nothing.
-ghost use Rattle.std.specs.Prelude.{◌≡◌, ◌<◌, ◌≤◌, ◌&&◌, length, take, pos, ◌+ℤ◌, ◌*ℤ◌, if◌then◌else◌, Some, None, Ok, Err, MatchResult};
+ghost use Rattle.std.specs.Prelude.{◌≡◌, ◌<◌, ◌&&◌, length, take, pos, ◌+ℤ◌, ◌*ℤ◌, if◌then◌else◌, Some, None, Ok, Err, MatchResult};
 ghost use Rattle.rows.specs.Limits.{most_rows, near};
 ghost use Rattle.substitution.specs.Lifting.{add_terms, carried_weights, lifted_weights};
 ghost use Rattle.substitution.specs.Holding.{kepts};
@@ -7,6 +7,7 @@ ghost use Rattle.substitution.specs.Holding.{kepts};
 use crate::kept::Kept;
 use engine::{Cause, Fault};
 use integers::product;
+use rows::list::RowList;
 use rows::{ROWS, Weights, narrow};
 
 // The running sum with one more term; none where the term or the sum is beyond G.
@@ -29,13 +30,12 @@ fn lift_one(below: &Weights, rows: &[Kept], place: usize) -> Option<i32>
     Some(sum)
 }
 
-// The weights of so many listed rows; where one is beyond G, the fault names the first such row.
-pub fn lift(below: &Weights, rows: &[Kept], listed: usize) -> Result<Weights, Fault>
-    requires { listed ≤ most_rows }
-    ensures { MatchResult result (λ w. lifted_weights listed 0 (take (length rows.now) below.now.values) (kepts rows.now) ≡ Ok (take listed w.values)) (λ f. lifted_weights listed 0 (take (length rows.now) below.now.values) (kepts rows.now) ≡ Err f) }
+// The weights of the listed rows; where one is beyond G, the fault names the first such row.
+pub fn lift(below: &Weights, rows: &[Kept], listed: &RowList) -> Result<Weights, Fault>
+    ensures { MatchResult result (λ w. lifted_weights listed.now.len 0 (take (length rows.now) below.now.values) (kepts rows.now) ≡ Ok (take listed.now.len w.values)) (λ f. lifted_weights listed.now.len 0 (take (length rows.now) below.now.values) (kepts rows.now) ≡ Err f) }
 {
     let mut values = [0; ROWS];
-    for (place, value) in values[..listed].iter_mut().enumerate() {
+    for (place, value) in values[..listed.len].iter_mut().enumerate() {
         *value = lift_one(below, rows, place).ok_or(Fault::new(Cause::WeightBeyond, place as u8))?;
     }
     Ok(Weights { values })

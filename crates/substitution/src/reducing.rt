@@ -2,7 +2,7 @@
 ghost use Rattle.std.specs.Prelude.{◌≡◌, ◌<◌, [], length};
 ghost use Rattle.substitution.specs.Reduction.{reduced};
 ghost use Rattle.substitution.specs.Holding.{kepts};
-ghost use Rattle.substitution.specs.Outcomes.{ahead, ahead_after, finished, OnwardAfter, FewLeft};
+ghost use Rattle.substitution.specs.Reducing.{ahead, ahead_after, finished, OnwardAfter, FewLeft};
 
 use crate::kept::{Kept, Pivot};
 use crate::pivoting::{contradiction, first_fader};

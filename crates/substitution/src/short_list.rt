@@ -1,5 +1,5 @@
 // A list of at most so many items as a list of rows can have, in fixed memory. Assumes nothing.
-ghost use Rattle.std.specs.Prelude.{◌≡◌, ◌<◌, [], ◌∷◌, ◌++◌, length, slice_index_or};
+ghost use Rattle.std.specs.Prelude.{◌≡◌, ◌<◌, ◌≤◌, [], ◌∷◌, ◌++◌, length, slice_index_or};
 ghost use Rattle.std.specs.List.{remove};
 ghost use Rattle.rows.specs.Limits.{most_rows};
 
@@ -38,7 +38,8 @@ impl<T: Copy> ShortList<T> {
     }
 
     pub fn as_slice(&self) -> &[T]
-        ensures { result.now ≡ self.now }
+        ensures items { result.now ≡ self.now }
+        ensures few { length result.now ≤ most_rows }
     {
         &self.items[..self.len]
     }

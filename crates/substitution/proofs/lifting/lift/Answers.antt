@@ -18,9 +18,9 @@ loop-place-preserved c =
     let n = (terms_sum (pos 0) ws (carried_weights j rs) w zero_within (sym e)).1 in
     let f : SFits w32 w = fits_32 w n in
     let items = c.loop-place.value-items in
-    let k = length-take-le c.args.listed (replicate 16 (pos 0)) c.requires in
+    let k = length-take-le c.args.listed.now.len (replicate 16 (pos 0)) c.args.listed.now.short in
     simp to_z-of_z (
       length-set items j w ∙ c.loop-place.invariant.0,
       within_set items j w c.loop-place.invariant.1 n,
-      lift_more c.args.listed ws rs j items w (omega (arith, k, c.loop-place-test.true)) (omega (arith, k, c.loop-place-test.true, c.loop-place.invariant.0)) e c.loop-place.invariant.2,
+      lift_more c.args.listed.now.len ws rs j items w (omega (arith, k, c.loop-place-test.true)) (omega (arith, k, c.loop-place-test.true, c.loop-place.invariant.0)) e c.loop-place.invariant.2,
     )

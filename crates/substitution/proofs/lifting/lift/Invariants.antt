@@ -5,4 +5,4 @@ use Rattle.substitution.proofs.Lifts.{Lifted}
 use Rattle.substitution.proofs.lifting.lift.Given as goal
 
 abbrev pub invariant-loop-place : goal.invariant-loop-place
-invariant-loop-place l = (length l.value-items ≡ l.listed) × EachWithin l.value-items × Lifted l.listed (take (length l.rows) l.below.values) (kepts l.rows) l.place l.value-items
+invariant-loop-place l = (length l.value-items ≡ l.listed.len) × EachWithin l.value-items × Lifted l.listed.len (take (length l.rows) l.below.values) (kepts l.rows) l.place l.value-items

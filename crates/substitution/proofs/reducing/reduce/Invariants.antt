@@ -1,7 +1,7 @@
 use Rattle.std.proofs.Common.{◌≡◌, ◌+◌, ◌-◌, ◌≤◌, [], length}
 use Rattle.substitution.specs.Reduction.{reduced}
 use Rattle.substitution.specs.Holding.{kepts}
-use Rattle.substitution.specs.Outcomes.{ahead}
+use Rattle.substitution.specs.Reducing.{ahead}
 use Rattle.substitution.proofs.reducing.reduce.Given as goal
 
 abbrev pub invariant-loop-reduction : goal.invariant-loop-reduction

@@ -7,5 +7,5 @@ use Rattle.elimination.proofs.eliminating.FourierMotzkinWorking.work_out.Goals a
 pub overflow_cast-i : goal.overflow_cast-i
 overflow_cast-i c =
     let s = c.args.state.now in
-    let b = equation_within 0 (state_rows s) c.in-Some.i (sym (rw c.as_slice-rows.ensures.value at c.first_equation.ensures) ∙ c.in-Some.is) in
+    let b = equation_within 0 (state_rows s) c.in-Some.i (sym (rw c.as_slice.ensures.value at c.first_equation.ensures) ∙ c.in-Some.is) in
     omega (arith, b, length_state_rows s, s.rows.short)

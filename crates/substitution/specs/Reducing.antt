@@ -1,4 +1,4 @@
--- What the work on rows and pivots in place says of the working. Assumes nothing.
+-- What a reduction in place stands for in the working, turn by turn and at its end. Assumes nothing.
 use Rattle.std.specs.Prelude.{ℕ, ◌+◌, ◌-◌, ◌≤◌, [], length, take, drop, Ok, Err, Result}
 use Rattle.substitution.specs.declared.reduction.Reduction.{Reduction}
 use Rattle.substitution.specs.declared.stop.Stop.{Stop}
