@@ -42,7 +42,7 @@ impl Plan {
     pub fn open(&mut self, count: u8) -> Result<(), Refusal>
         ensures { Opened count (plan_view self.old) result (plan_view self.new) }
     {
-        if count == 0 || count as usize > FADERS {
+        if !(1..=FADERS as u8).contains(&count) {
             return Err(Refusal::BadCount);
         }
         self.count = count;

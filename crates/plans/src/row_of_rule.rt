@@ -13,8 +13,7 @@ use rows::row::Row;
 fn is_offending(count: u8, fader: usize, coefficient: i16) -> bool
     ensures { result ≡ offends count fader coefficient }
 {
-    coefficient < -COEFFICIENT
-        || coefficient > COEFFICIENT
+    !(-COEFFICIENT..=COEFFICIENT).contains(&coefficient)
         || (fader >= count as usize && coefficient != 0)
 }
 
