@@ -71,9 +71,7 @@ pub fn ask<E: Engine>(
 ) -> Result<(), Refusal>
     ensures { Asked E.Engine.verdict E.Engine.cells (length table.old) (plan_view plan.now) sheet.old result sheet.new }
 {
-    if plan.count == 0 {
-        return Err(Refusal::NoPlan);
-    }
+    plan.opened()?;
     let rules = plan.rules();
     match decide_sounding(engine, plan.count, rules, table)? {
         Answer::Preset(preset) => {

@@ -73,9 +73,7 @@ pub fn blame<E: Engine>(
     ensures plan { plan_view plan.new ≡ plan_view plan.old }
     ensures blamed { Blamed E.Engine.verdict E.Engine.cells (length table.old) (plan_view plan.old) marks.old result marks.new }
 {
-    if plan.count == 0 {
-        return Err(Refusal::NoPlan);
-    }
+    plan.opened()?;
     let count = plan.count;
     let len = plan.len as usize;
     let whole = decide_sounding(engine, count, plan.rules(), table)?;
