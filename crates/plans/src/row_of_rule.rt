@@ -35,9 +35,8 @@ fn widened(coefficients: &[i16; FADERS]) -> [i32; FADERS]
     ensures within { EachWithin result }
 {
     let mut wide = [0; FADERS];
-    // kept: of `coefficients.map(i32::from)` a proof knows the values, and not that each is within G
-    for (k, coefficient) in coefficients.iter().enumerate() {
-        wide[k] = *coefficient as i32;
+    for (k, wide) in wide.iter_mut().enumerate() {
+        *wide = i32::from(coefficients[k]);
     }
     wide
 }
