@@ -21,10 +21,8 @@ fn marks_of(rules: &[Rule]) -> [u8; ROWS]
     ensures { result ≡ marks_from most_rows 0 (numbers_of (numbered 0 (rule_views rules.now))) }
 {
     let mut marks = [0; ROWS];
-    for (number, rule) in rules.iter().enumerate() {
-        if rule.sounds {
-            marks[number] = 1;
-        }
+    for (number, mark) in marks[..rules.len()].iter_mut().enumerate() {
+        *mark = u8::from(rules[number].sounds);
     }
     marks
 }
