@@ -21,12 +21,11 @@ fn is_offending(count: u8, fader: usize, coefficient: i16) -> bool
 fn first_offending(count: u8, coefficients: &[i16; FADERS]) -> Option<u8>
     ensures { result ≡ first_offending count 0 coefficients.now }
 {
-    for (fader, coefficient) in coefficients.iter().enumerate() {
-        if is_offending(count, fader, *coefficient) {
-            return Some(fader as u8);
-        }
-    }
-    None
+    coefficients
+        .iter()
+        .enumerate()
+        .position(|(fader, coefficient)| is_offending(count, fader, *coefficient))
+        .map(|fader| fader as u8)
 }
 
 // The same numbers in the type of a row.
