@@ -1,13 +1,12 @@
 -- The marks of the rules that sound. Assumes nothing.
-use Rattle.std.proofs.Common.{◌≡◌, ℕ, zero, suc, ◌+◌, ◌-◌, ◌<◌, ◌≤◌, Bool, true, false, cond, List, [], ◌∷◌, ◌++◌, map, length, get_or, take, drop, set, replicate, sym, refl, ap, ◌∙◌, arith}
-use Rattle.std.proofs.lemmas.List.{map-append, length-map, drop-replicate, take_more, take_more_set, take_all}
+use Rattle.std.proofs.Common.{◌≡◌, ℕ, zero, suc, ◌+◌, ◌-◌, ◌<◌, ◌≤◌, Bool, true, false, cond, List, [], ◌∷◌, ◌++◌, map, length, take, drop, replicate, sym, refl, ap, ◌∙◌, arith}
+use Rattle.std.proofs.lemmas.List.{length-map, drop-replicate, take_all}
 use Rattle.std.proofs.lemmas.Bool.{eq-eqb, ne_eqb}
 use Rattle.rows.specs.Limits.{most_rows}
 use Rattle.plans.specs.declared.rule.Rule.{Rule}
 use Rattle.plans.specs.Rules.{RuleView, rule_view, rule_views}
 use Rattle.console.specs.Walks.{numbered, numbers_of}
 use Rattle.console.specs.Marks.{marks_from}
-use Rattle.console.proofs.Spreading.{all_same}
 
 abbrev pub mark_of : RuleView → ℕ
 mark_of r = cond r.sounds 1 0
