@@ -1,13 +1,12 @@
 -- The marks of the rules that sound. Assumes nothing.
-use Rattle.std.proofs.Common.{◌≡◌, ℕ, zero, suc, ◌+◌, ◌-◌, ◌<◌, ◌≤◌, Bool, true, false, cond, List, [], ◌∷◌, ◌++◌, map, length, get_or, take, drop, set, replicate, sym, refl, ap, ◌∙◌, arith}
-use Rattle.std.proofs.lemmas.List.{map-append, length-map, length-drop, take-append-drop, take_more, take_more_set, take_all, get_or-drop}
+use Rattle.std.proofs.Common.{◌≡◌, ℕ, zero, suc, ◌+◌, ◌-◌, ◌<◌, ◌≤◌, Bool, true, false, cond, List, [], ◌∷◌, ◌++◌, map, length, take, drop, replicate, sym, refl, ap, ◌∙◌, arith}
+use Rattle.std.proofs.lemmas.List.{length-map, drop-replicate, take_all}
 use Rattle.std.proofs.lemmas.Bool.{eq-eqb, ne_eqb}
 use Rattle.rows.specs.Limits.{most_rows}
 use Rattle.plans.specs.declared.rule.Rule.{Rule}
 use Rattle.plans.specs.Rules.{RuleView, rule_view, rule_views}
 use Rattle.console.specs.Walks.{numbered, numbers_of}
 use Rattle.console.specs.Marks.{marks_from}
-use Rattle.console.proofs.Spreading.{all_same}
 
 abbrev pub mark_of : RuleView → ℕ
 mark_of r = cond r.sounds 1 0
@@ -45,28 +44,9 @@ marks_are (suc n) i (r ∷ rules) h = by r.sounds refl (marks_are n (i + 1) rule
 abbrev pub MarkedTo : List Rule → ℕ → List ℕ → Type 0
 MarkedTo rules i marks = take i marks ≡ map mark_of (rule_views (take i rules))
 
--- nothing is written from place i on
-abbrev pub Blank : ℕ → List ℕ → Type 0
-Blank i marks = (k : ℕ) → i ≤ k → get_or marks k 0 ≡ 0
-
-module _ (rules : List Rule) (i : ℕ) (d : Rule) (h : i < length rules) where
-  marks_more : map mark_of (rule_views (take (i + 1) rules)) ≡ map mark_of (rule_views (take i rules)) ++ mark_of (rule_view (get_or rules i d)) ∷ []
-  marks_more =
-      ap (λ (rs : List Rule). map mark_of (rule_views rs)) (take_more rules i d h)
-      ∙ ap (map mark_of) (map-append rule_view (take i rules) (get_or rules i d ∷ []))
-      ∙ map-append mark_of (rule_views (take i rules)) (rule_view (get_or rules i d) ∷ [])
-
-  pub mark_sounding : (marks : List ℕ) → i < length marks → (get_or rules i d).sounds ≡ true → MarkedTo rules i marks → MarkedTo rules (i + 1) (set marks i 1)
-  mark_sounding marks k e so = take_more_set marks i 1 k ∙ ap (λ (ms : List ℕ). ms ++ 1 ∷ []) so ∙ sym (marks_more ∙ rw e refl)
-
-  pub mark_muted : (marks : List ℕ) → i < length marks → (get_or rules i d).sounds ≡ false → Blank i marks → MarkedTo rules i marks → MarkedTo rules (i + 1) marks
-  mark_muted marks k e blank so =
-      take_more marks i 0 k ∙ (λ j. so j ++ blank i (omega arith) j ∷ []) ∙ sym (marks_more ∙ rw e refl)
-
-pub marks_whole : (rules : List Rule) (marks : List ℕ) (n : ℕ) → n ≡ length rules → length rules ≤ most_rows → length marks ≡ most_rows → Blank n marks → MarkedTo rules n marks → marks ≡ marks_from most_rows 0 (numbers_of (numbered 0 (rule_views rules)))
-marks_whole rules marks n at few long blank so =
+pub marks_whole : (rules : List Rule) (marks : List ℕ) (n : ℕ) → length marks ≡ length rules → length rules ≤ n → length rules ≤ most_rows → MarkedTo rules n marks → marks ++ drop (length rules) (replicate most_rows 0) ≡ marks_from most_rows 0 (numbers_of (numbered 0 (rule_views rules)))
+marks_whole rules marks n long at few so =
     let views = length-map rules rule_view in
-    let rest : length (drop n marks) ≡ most_rows - length (rule_views rules) = omega (arith, length-drop n marks, long, at, views) in
-    let back : drop n marks ≡ replicate (length (drop n marks)) 0 = all_same 0 (drop n marks) (λ k. get_or-drop n marks k 0 ∙ blank (n + k) (omega arith)) in
-    let front : take n marks ≡ map mark_of (rule_views rules) = so ∙ ap (λ (rs : List Rule). map mark_of (rule_views rs)) (take_all n rules (omega (arith, at))) in
-    sym (take-append-drop n marks) ∙ (λ j. front j ++ (back ∙ ap (λ (m : ℕ). replicate m 0) rest) j) ∙ sym (marks_are most_rows 0 (rule_views rules) (omega (arith, few, views)))
+    let front : marks ≡ map mark_of (rule_views rules) = sym (take_all n marks (omega (arith, long, at))) ∙ so ∙ ap (λ (rs : List Rule). map mark_of (rule_views rs)) (take_all n rules at) in
+    let rest : drop (length rules) (replicate most_rows 0) ≡ replicate (most_rows - length (rule_views rules)) 0 = drop-replicate (length rules) most_rows 0 ∙ ap (λ (m : ℕ). replicate (most_rows - m) 0) (sym views) in
+    (λ j. front j ++ rest j) ∙ sym (marks_are most_rows 0 (rule_views rules) (omega (arith, few, views)))

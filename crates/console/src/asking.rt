@@ -14,6 +14,7 @@ use plans::{Plan, Rule};
 use rows::{FADERS, ROWS, Weights};
 
 // Starts the engine and gives it every sounding rule in number order; replies how many there are.
+// kept: `Valid` is asked of lent rules here, in `decide_sounding` and in `walk`: a type that holds it would be made anew at each rule that Blame mutes
 fn feed<E: Engine>(engine: &mut E, count: u8, rules: &[Rule]) -> Result<usize, Refusal>
     requires { Valid count (sounding_rows (rule_views rules.now)) }
     ensures { MatchResult result (λ n. (n ≡ length (sounding_rows (rule_views rules.now))) × (E.Engine.view engine.new ≡ loaded count (sounding_rows (rule_views rules.now)))) (λ _. ⊥) }
@@ -50,7 +51,7 @@ fn by_number(rules: &[Rule], weights: &Weights) -> [i32; ROWS]
     ensures { result ≡ padded (spread (rule_views rules.now) weights.now.values) }
 {
     let mut spread = [0; ROWS];
-    // kept: the place among the weights moves on only at a rule that sounds
+    // kept: the place among the weights moves on only at a rule that sounds; a loop over the places of `spread` would read the rules by index instead
     let mut place = 0;
     for (number, rule) in rules.iter().enumerate() {
         if rule.sounds {
@@ -71,9 +72,7 @@ pub fn ask<E: Engine>(
 ) -> Result<(), Refusal>
     ensures { Asked E.Engine.verdict E.Engine.cells (length table.old) (plan_view plan.now) sheet.old result sheet.new }
 {
-    if plan.count == 0 {
-        return Err(Refusal::NoPlan);
-    }
+    plan.opened()?;
     let rules = plan.rules();
     match decide_sounding(engine, plan.count, rules, table)? {
         Answer::Preset(preset) => {

@@ -21,11 +21,8 @@ fn marks_of(rules: &[Rule]) -> [u8; ROWS]
     ensures { result ≡ marks_from most_rows 0 (numbers_of (numbered 0 (rule_views rules.now))) }
 {
     let mut marks = [0; ROWS];
-    // kept: of `marks.iter_mut().zip(rules)` a proof does not know what was written
-    for (number, rule) in rules.iter().enumerate() {
-        if rule.sounds {
-            marks[number] = 1;
-        }
+    for (number, mark) in marks[..rules.len()].iter_mut().enumerate() {
+        *mark = u8::from(rules[number].sounds);
     }
     marks
 }
@@ -74,9 +71,7 @@ pub fn blame<E: Engine>(
     ensures plan { plan_view plan.new ≡ plan_view plan.old }
     ensures blamed { Blamed E.Engine.verdict E.Engine.cells (length table.old) (plan_view plan.old) marks.old result marks.new }
 {
-    if plan.count == 0 {
-        return Err(Refusal::NoPlan);
-    }
+    plan.opened()?;
     let count = plan.count;
     let len = plan.len as usize;
     let whole = decide_sounding(engine, count, plan.rules(), table)?;

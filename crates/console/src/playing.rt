@@ -28,9 +28,8 @@ pub fn play<E: Engine>(
 {
     let mut plan = Plan::new();
     let count = commands.len().min(replies.len());
-    // kept: of `replies.iter_mut().zip(commands)` a proof does not know what was written
-    for (i, command) in commands[..count].iter().enumerate() {
-        replies[i] = perform(&mut plan, *command, engine, table);
+    for (i, reply) in replies[..count].iter_mut().enumerate() {
+        *reply = perform(&mut plan, commands[i], engine, table);
     }
     count
 }

@@ -1,6 +1,7 @@
 -- The search for a coefficient that a rule may not have. Assumes nothing.
-use Rattle.std.proofs.Common.{◌≡◌, ℕ, zero, suc, ◌+◌, ◌<◌, ◌≤◌, Bool, true, false, cond, ltb, leb, List, [], ◌∷◌, length, get_or, drop, ℤ, pos, nat_abs, Some, None, Option, refl, ap, ◌∙◌, inl, inr, arith}
-use Rattle.std.proofs.lemmas.List.{at_drop_more, at_drop_all}
+use Rattle.std.proofs.Common.{◌≡◌, ℕ, zero, suc, ◌+◌, ◌<◌, ◌≤◌, Bool, true, false, cond, ltb, leb, List, [], ◌∷◌, length, get_or, ℤ, pos, nat_abs, Some, None, Option, refl, ap, inl, inr, arith}
+use Rattle.std.specs.List.{position_from, enumerate_from}
+use Rattle.std.specs.Option.{MatchOption, IsSomeAnd}
 use Rattle.std.proofs.lemmas.Int.{ints}
 use Rattle.std.proofs.lemmas.Bool.{and_cases, or_parts, leb-false, ltb-false}
 use Rattle.engine.specs.declared.refusal.Refusal.{Refusal}
@@ -9,12 +10,23 @@ use Rattle.engine.specs.Interface.{first_refusal, unused_refusal}
 use Rattle.plans.specs.Ranges.{coefficient_range}
 use Rattle.plans.specs.Edits.{offends, first_offending, row_refusal, side_refusal}
 
--- one coefficient further, at which the test is b
-pub offending_at : (count k : ℕ) (zs : List ℤ) (b : Bool) → k < length zs → offends count k (get_or zs k (pos 0)) ≡ b → first_offending count k (drop k zs) ≡ cond b (Some k) (first_offending count (k + 1) (drop (k + 1) zs))
-offending_at count k zs b h e = at_drop_more (first_offending count k) zs k (pos 0) h ∙ ap (λ (t : Bool). cond t (Some k) (first_offending count (k + 1) (drop (k + 1) zs))) e
+-- the first place at which the test passes, the places counted from k
+pub offending_found : (count k : ℕ) (zs : List ℤ) → position_from (λ (p : ℕ × ℤ). offends count p.0 p.1) k (enumerate_from k zs) ≡ first_offending count k zs
+offending_found count k [] = refl
+offending_found count k (z ∷ zs) = ap (cond (offends count k z) (Some k)) (offending_found count (k + 1) zs)
 
-pub offending_none : (count k : ℕ) (zs : List ℤ) → length zs ≤ k → first_offending count k (drop k zs) ≡ None
-offending_none count k zs h = at_drop_all (first_offending count k) zs k h
+some_same : (s : Option ℕ) (j : ℕ) (P : ℕ → Type 0) → ((r : ℕ) → P r → r ≡ j) → IsSomeAnd s P → s ≡ Some j
+some_same None j P same h = absurd h
+some_same (Some r) j P same h = ap Some (same r h)
+
+-- s is that place, in a type that holds the numbers below n
+pub offending_same : (count k : ℕ) (zs : List ℤ) (n : ℕ) → k + length zs ≤ n → (s : Option ℕ) (P : ℕ → ℕ → Type 0) → ((j r : ℕ) → j < n → P j r → r ≡ j) → MatchOption (first_offending count k zs) (s ≡ None) (λ j. IsSomeAnd s (P j)) → s ≡ first_offending count k zs
+offending_same count k [] n b s P same h = h
+offending_same count k (z ∷ zs) n b s P same h = by (offends count k z) (offending_same count (k + 1) zs n (omega (arith, b)) s P same) h
+  where
+    by : (t : Bool) → (MatchOption (first_offending count (k + 1) zs) (s ≡ None) (λ j. IsSomeAnd s (P j)) → s ≡ first_offending count (k + 1) zs) → MatchOption (cond t (Some k) (first_offending count (k + 1) zs)) (s ≡ None) (λ j. IsSomeAnd s (P j)) → s ≡ cond t (Some k) (first_offending count (k + 1) zs)
+    by true more m = some_same s k (P k) (λ r p. same k r (omega (arith, b)) p) m
+    by false more m = more m
 
 -- the search went past j
 past_one : (b : Bool) (j : ℕ) (later : Option ℕ) → cond b (Some j) later ≡ None → (b ≡ false) × (later ≡ None)

@@ -1,5 +1,6 @@
 // The calls that edit a plan. A refused call leaves the plan as it stood. Assumes nothing.
-ghost use Rattle.std.specs.Prelude.{◌≡◌, true, false};
+ghost use Rattle.std.specs.Prelude.{◌≡◌, true, false, MatchResult};
+ghost use Rattle.engine.specs.declared.refusal.Refusal.TheVariants.{NoPlan};
 ghost use Rattle.plans.specs.Plans.{plan_view, no_plan};
 ghost use Rattle.plans.specs.Edits.{Opened, Added, Lifted, Marked, already as already_at};
 
@@ -38,11 +39,21 @@ impl Plan {
         }
     }
 
+    // Refused where no plan is open.
+    pub fn opened(&self) -> Result<(), Refusal>
+        ensures { MatchResult result (λ _. self.now.count ≡ 0 → ⊥) (λ refusal. (self.now.count ≡ 0) × (refusal ≡ NoPlan)) }
+    {
+        if self.count == 0 {
+            return Err(Refusal::NoPlan);
+        }
+        Ok(())
+    }
+
     // An empty plan in place of the old.
     pub fn open(&mut self, count: u8) -> Result<(), Refusal>
         ensures { Opened count (plan_view self.old) result (plan_view self.new) }
     {
-        if count == 0 || count as usize > FADERS {
+        if !(1..=FADERS as u8).contains(&count) {
             return Err(Refusal::BadCount);
         }
         self.count = count;
@@ -55,9 +66,7 @@ impl Plan {
     pub fn add(&mut self, kind: u8, coefficients: &[i16; FADERS], side: i32) -> Result<(), Refusal>
         ensures { Added kind coefficients.now side (plan_view self.old) result (plan_view self.new) }
     {
-        if self.count == 0 {
-            return Err(Refusal::NoPlan);
-        }
+        self.opened()?;
         if self.len as usize >= ROWS {
             return Err(Refusal::Full);
         }
@@ -72,9 +81,7 @@ impl Plan {
     pub fn lift(&mut self) -> Result<(), Refusal>
         ensures { Lifted (plan_view self.old) result (plan_view self.new) }
     {
-        if self.count == 0 {
-            return Err(Refusal::NoPlan);
-        }
+        self.opened()?;
         if self.len == 0 {
             return Err(Refusal::NoRule);
         }
@@ -100,9 +107,7 @@ impl Plan {
     fn mark(&mut self, number: u8, sounds: bool) -> Result<(), Refusal>
         ensures { Marked number sounds (plan_view self.old) result (plan_view self.new) }
     {
-        if self.count == 0 {
-            return Err(Refusal::NoPlan);
-        }
+        self.opened()?;
         if number >= self.len {
             return Err(Refusal::NoSuchRule);
         }

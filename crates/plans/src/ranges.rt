@@ -12,5 +12,5 @@ pub const SIDE: i32 = 1_000_000;
 pub fn side_in_range(side: i32) -> bool
     ensures { result ≡ nat_le (unsigned_abs side) side_range }
 {
-    -SIDE <= side && side <= SIDE
+    (-SIDE..=SIDE).contains(&side)
 }

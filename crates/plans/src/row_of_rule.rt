@@ -13,8 +13,7 @@ use rows::row::Row;
 fn is_offending(count: u8, fader: usize, coefficient: i16) -> bool
     ensures { result ≡ offends count fader coefficient }
 {
-    coefficient < -COEFFICIENT
-        || coefficient > COEFFICIENT
+    !(-COEFFICIENT..=COEFFICIENT).contains(&coefficient)
         || (fader >= count as usize && coefficient != 0)
 }
 
@@ -22,12 +21,11 @@ fn is_offending(count: u8, fader: usize, coefficient: i16) -> bool
 fn first_offending(count: u8, coefficients: &[i16; FADERS]) -> Option<u8>
     ensures { result ≡ first_offending count 0 coefficients.now }
 {
-    for (fader, coefficient) in coefficients.iter().enumerate() {
-        if is_offending(count, fader, *coefficient) {
-            return Some(fader as u8);
-        }
-    }
-    None
+    coefficients
+        .iter()
+        .enumerate()
+        .position(|(fader, coefficient)| is_offending(count, fader, *coefficient))
+        .map(|fader| fader as u8)
 }
 
 // The same numbers in the type of a row.
@@ -36,9 +34,8 @@ fn widened(coefficients: &[i16; FADERS]) -> [i32; FADERS]
     ensures within { EachWithin result }
 {
     let mut wide = [0; FADERS];
-    // kept: of `coefficients.map(i32::from)` a proof knows the values, and not that each is within G
-    for (k, coefficient) in coefficients.iter().enumerate() {
-        wide[k] = *coefficient as i32;
+    for (k, wide) in wide.iter_mut().enumerate() {
+        *wide = i32::from(coefficients[k]);
     }
     wide
 }

@@ -71,32 +71,23 @@ fn check_preset(
     Ok(())
 }
 
+// The numbers of four rules, and none but 0 after them.
+fn four<T: Copy + Default>(of: [T; 4]) -> [T; ROWS] {
+    let mut all = [T::default(); ROWS];
+    all[..4].copy_from_slice(&of);
+    all
+}
+
 // The weights of four rules.
 fn check_clash(rt: &impl Abort, reply: Reply, of: [i32; 4]) -> Result<(), Fail> {
-    let Reply::Clash { rules, weights } = reply else {
-        return Err(Fail::new("no clash"));
-    };
-    assert!(rt; rules == 4);
-    assert!(rt;
-        weights
-            == [
-                of[0], of[1], of[2], of[3], 0, 0, 0, 0, 0, 0, 0, 0, 0, 0, 0, 0
-            ]
-    );
+    let weights = four(of);
+    assert!(rt; reply == Reply::Clash { rules: 4, weights });
     Ok(())
 }
 
 // The marks of four rules.
 fn check_blamed(rt: &impl Abort, reply: Reply, of: [u8; 4]) -> Result<(), Fail> {
-    let Reply::Blamed(marks) = reply else {
-        return Err(Fail::new("none is blamed"));
-    };
-    assert!(rt;
-        marks
-            == [
-                of[0], of[1], of[2], of[3], 0, 0, 0, 0, 0, 0, 0, 0, 0, 0, 0, 0
-            ]
-    );
+    assert!(rt; reply == Reply::Blamed(four(of)));
     Ok(())
 }
 
@@ -272,7 +263,18 @@ fn refused_calls_leave_sheet_and_marks(rt: HostRuntime) -> Result<(), Fail> {
     Ok(())
 }
 
-// A new engine; one that holds other rows; one that has answered them; one that has met a fault.
+// What an engine has been through.
+#[derive(Clone, Copy)]
+enum Earlier {
+    New,
+    // it holds other rows
+    Loaded,
+    // it has answered them
+    Answered,
+    // it has met a fault
+    Faulted,
+}
+
 #[test]
 fn any_earlier_state(rt: HostRuntime) -> Result<(), Fail> {
     let plan = crowded()?;
@@ -284,17 +286,27 @@ fn any_earlier_state(rt: HostRuntime) -> Result<(), Fail> {
     let mut engine = new_engine();
     let mut table = new_table();
     let cells = &mut table[..];
-    for turn in 0..4 {
-        if turn == 1 || turn == 2 {
-            engine.start(6)?;
-            engine.take(&row)?;
-        }
-        if turn == 2 {
-            engine.decide(cells)?;
-        }
-        if turn == 3 {
-            let asked = ask(&rest, &mut engine, cells, &mut unwritten());
-            assert_eq!(rt; asked, Err(table_full()));
+    for state in [
+        Earlier::New,
+        Earlier::Loaded,
+        Earlier::Answered,
+        Earlier::Faulted,
+    ] {
+        match state {
+            Earlier::New => {}
+            Earlier::Loaded => {
+                engine.start(6)?;
+                engine.take(&row)?;
+            }
+            Earlier::Answered => {
+                engine.start(6)?;
+                engine.take(&row)?;
+                engine.decide(cells)?;
+            }
+            Earlier::Faulted => {
+                let asked = ask(&rest, &mut engine, cells, &mut unwritten());
+                assert_eq!(rt; asked, Err(table_full()));
+            }
         }
         let mut sheet = unwritten();
         ask(&plan, &mut engine, cells, &mut sheet)?;

@@ -1,5 +1,5 @@
 -- Numbers that are written one by one, and the items of all of them. Assumes nothing.
-use Rattle.std.proofs.Common.{◌≡◌, ℕ, suc, ◌+◌, ◌<◌, Bool, true, false, cond, eqb, List, [], ◌∷◌, ◌++◌, map, length, get_or, take, ℤ, pos, negsuc, nat_abs, decimal, sym, refl, ap, ◌∙◌, append_assoc, append-nil, add-zero, arith}
+use Rattle.std.proofs.Common.{◌≡◌, ℕ, suc, ◌+◌, ◌<◌, Bool, true, false, cond, eqb, List, [], ◌∷◌, ◌++◌, length, get_or, take, ℤ, pos, negsuc, nat_abs, decimal, sym, refl, ap, ◌∙◌, append-nil, add-zero, arith}
 use lib.Signed.{lt_z}
 use Rattle.std.proofs.lemmas.List.{take_more, flat_map_more, length-take-le}
 use Rattle.std.proofs.lemmas.Bool.{le-ltb, eq-eqb, ne_eqb}
@@ -17,10 +17,6 @@ item_by_sign y z n same is = ap (λ k. 32 ∷ (sign_text (lt_z y (pos 0)) ++ dec
 -- one number further
 pub items_more : (zs : List ℤ) (i : ℕ) (xs : List ℕ) → i < length zs → xs ≡ item (get_or zs i (pos 0)) → items (take i zs) ++ xs ≡ items (take (i + 1) zs)
 items_more zs i xs h is = rw (take_more zs i (pos 0) h, is) (flat_map_more item [] (take i zs) (get_or zs i (pos 0)))
-
--- three numbers
-pub items_three : (a b c : ℕ) → (item (pos a) ++ item (pos b)) ++ item (pos c) ≡ items (map pos (a ∷ b ∷ c ∷ []))
-items_three a b c = simp (append_assoc, append-nil)
 
 -- ---- marks
 marked_push : (n : ℕ) (ms : List ℕ) (m : ℕ) → marked n (ms ++ m ∷ []) ≡ marked n ms ++ cond (eqb m 0) [] (pos (n + length ms) ∷ [])

@@ -14,7 +14,7 @@ fn front(numbers: &[i32], count: u8) -> &[i32]
     ensures front { result.now ≡ take count numbers.now }
     ensures few { length result.now ≤ length numbers.now }
 {
-    &numbers[0..numbers.len().min(count as usize)]
+    &numbers[..numbers.len().min(count as usize)]
 }
 
 fn preset_text(numerators: &[i32], denominator: u32) -> Line

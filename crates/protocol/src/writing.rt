@@ -14,7 +14,7 @@ impl Line {
     pub fn as_bytes(&self) -> &[u8]
         ensures { result.now ≡ held self.now }
     {
-        &self.bytes[0..self.len]
+        &self.bytes[..self.len]
     }
 
     // One more byte.

@@ -15,14 +15,14 @@ back : (p : Plan) (lent : List Rule) → lent ≡ take p.len p.rules → lent ++
 back p lent e = ap (λ (rs : List Rule). rs ++ drop p.len p.rules) e ∙ take-append-drop p.len p.rules
 
 pub decide_sounding-requires : goal.decide_sounding-requires
-decide_sounding-requires g c = rw c.rules.ensures.value (sounding_valid c.args.plan.now (above_zero _ c.if-plan-eq0.false))
+decide_sounding-requires g c = rw c.rules.ensures.value (sounding_valid c.args.plan.now (above_zero _ c.in_ok-opened.ensures))
 
 pub walk-reply-requires : goal.walk-reply-requires
 walk-reply-requires g c =
     let p = c.args.plan.now in
     record {
       few = omega (arith, length-take-le p.len p.rules (omega (arith, p.short, p.places)), p.short);
-      valid = sounding_valid p (above_zero _ c.if-plan-eq0.false);
+      valid = sounding_valid p (above_zero _ c.in_ok-opened.ensures);
       room = omega (arith, room_of g.E.Engine.cells (length c.args.table.now) _ _ _ (rw c.rules.ensures.value at c.in_ok-whole.ensures), c.decide_sounding.auto.table);
     }
 
@@ -40,7 +40,7 @@ invariant_of-plan g c =
 pub returns-then-not-is_clash : goal.returns-then-not-is_clash
 returns-then-not-is_clash g c = record {
   plan = refl;
-  blamed = blamed_feasible (Unit {0}) g.E.Engine.verdict g.E.Engine.cells (length c.args.table.now) (plan_view c.args.plan.now) c.if-plan-eq0.false c.in_ok-whole.whole (rw c.rules.ensures.value at c.in_ok-whole.ensures) c.args.marks.now (sym c.is_clash.ensures ∙ c.if-not-is_clash.true);
+  blamed = blamed_feasible (Unit {0}) g.E.Engine.verdict g.E.Engine.cells (length c.args.table.now) (plan_view c.args.plan.now) c.in_ok-opened.ensures c.in_ok-whole.whole (rw c.rules.ensures.value at c.in_ok-whole.ensures) c.args.marks.now (sym c.is_clash.ensures ∙ c.if-not-is_clash.true);
 }
 
 pub returns : goal.returns
@@ -49,5 +49,5 @@ returns g c =
     let e = back p c.walk-reply.new.rules c.walk-reply.ensures.rules in
     record {
       plan = ap (λ (rs : List Rule). record { count = p.count; rules = rule_views (take p.len rs) }) e;
-      blamed = blamed_walk (Unit {0}) g.E.Engine.verdict g.E.Engine.cells (length c.args.table.now) (plan_view p) c.if-plan-eq0.false c.in_ok-whole.whole (rw c.rules.ensures.value at c.in_ok-whole.ensures) c.args.marks.now c.walk-reply.result c.walk-reply.new.marks (sym c.is_clash.ensures ∙ c.if-not-is_clash.false) c.walk-reply.ensures.names;
+      blamed = blamed_walk (Unit {0}) g.E.Engine.verdict g.E.Engine.cells (length c.args.table.now) (plan_view p) c.in_ok-opened.ensures c.in_ok-whole.whole (rw c.rules.ensures.value at c.in_ok-whole.ensures) c.args.marks.now c.walk-reply.result c.walk-reply.new.marks (sym c.is_clash.ensures ∙ c.if-not-is_clash.false) c.walk-reply.ensures.names;
     }

@@ -1,6 +1,6 @@
 -- What `play` leaves to show. Assumes nothing.
 use Rattle.std.proofs.Common.{◌≡◌, ℕ, ◌+◌, ◌<◌, List, [], ◌∷◌, ◌++◌, length, get_or, take, drop, set, Option, sym, refl, ap, ◌∙◌, subst, arith}
-use Rattle.std.proofs.lemmas.List.{length-take-le, get_or-take, take_more, take_more_set, map-append, drop-drop, drop-set-lt}
+use Rattle.std.proofs.lemmas.List.{length-take-le, take_more, take_more_set, take-append-le, drop-append-le, drop_all, map-append}
 use Rattle.rows.specs.Rows.{Constraint}
 use Rattle.engine.specs.declared.refusal.Refusal.{Refusal}
 use Rattle.engine.specs.Verdicts.{Verdict, Valid}
@@ -8,7 +8,7 @@ use Rattle.plans.specs.declared.plan.Plan.{Plan}
 use Rattle.plans.specs.Sounding.{sounding_rows}
 use Rattle.plans.specs.Plans.{PlanView, plan_view, no_plan}
 use Rattle.console.specs.declared.command.Command.{Command}
-use Rattle.console.specs.declared.command.Command.TheVariants.{Lift}
+use Rattle.console.specs.declared.command.Command.TheVariants.{Open}
 use Rattle.console.specs.declared.reply.Reply.{Reply as Sent}
 use Rattle.console.specs.Asking.{table_refusal}
 use Rattle.console.specs.Replies.{Reply, reply_view, reply_views}
@@ -24,7 +24,7 @@ abbrev So : (ℕ → List Constraint → Verdict) → Option Refusal → List Co
 So verdict table cs rs = RunLaw verdict table cs rs × (rs ≡ replies verdict table no_plan cs)
 
 pub loop-i-init : goal.loop-i-init
-loop-i-init g c = (c.new-plan.ensures, run_none g.E.Engine.verdict _, refl, plans_none, refl)
+loop-i-init g c = (c.new-plan.ensures, run_none g.E.Engine.verdict _, refl, plans_none)
 
 -- the run with the command at i
 step : (verdict : ℕ → List Constraint → Verdict) (table : Option Refusal) (cs : List Command) (rs : List Sent) (i : ℕ) (d c : Command) (r : Sent) (p q : PlanView) → c ≡ get_or cs i d → i < length cs → i < length rs → p ≡ plan_after no_plan (take i cs) → q ≡ next c p
@@ -47,25 +47,33 @@ plans_step cs i d q h at old =
     subst PlansValid (sym more) (plans_more (take i cs) (get_or cs i d) old
     (subst (λ (p : PlanView). 0 < p.count → Valid p.count (sounding_rows p.rules)) (at ∙ ap (plan_after no_plan) more) (sounding_valid q)))
 
--- what is not replied to yet stays
-rest_step : (xs ys : List Sent) (i : ℕ) (x : Sent) → drop i xs ≡ drop i ys → drop (i + 1) (set xs i x) ≡ drop (i + 1) ys
-rest_step xs ys i x e = drop-set-lt (i + 1) xs i x (omega arith) ∙ sym (drop-drop 1 i xs) ∙ ap (drop 1) e ∙ drop-drop 1 i ys
-
 pub loop-i-preserved : goal.loop-i-preserved
 loop-i-preserved g c =
     let l = c.loop-i in
     let n = c.min-count.ensures in
-    let long = length-take-le c.min-count.result c.args.commands.now (omega (arith, n)) in
-    let here = step g.E.Engine.verdict (table_refusal g.E.Engine.cells (length l.table)) c.args.commands.now l.replies l.i _ _ c.perform.result (plan_view l.plan) (plan_view c.perform.new.plan)
-    (get_or-take c.min-count.result c.args.commands.now l.i _ (omega (arith, long, c.loop-i-test.true))) (omega (arith, n, long, c.loop-i-test.true)) (omega (arith, n, long, c.loop-i-test.true, l.auto.replies)) l.invariant.0 c.perform.ensures.plan (l.invariant.1, l.invariant.2) c.perform.ensures.reply c.perform.ensures.exact in
-    let so = subst (λ (m : ℕ). So g.E.Engine.verdict (table_refusal g.E.Engine.cells m) (take (l.i + 1) c.args.commands.now) (reply_views (take (l.i + 1) (set l.replies l.i c.perform.result)))) (sym c.perform.auto.table) here.1 in
-    (here.0, so.0, so.1, plans_step c.args.commands.now l.i Lift c.perform.new.plan (omega (arith, n, long, c.loop-i-test.true)) here.0 l.invariant.3, rest_step l.replies c.args.replies.now l.i c.perform.result l.invariant.4)
+    let cs = c.args.commands.now in
+    let long = length-take-le c.min-count.result c.args.replies.now (omega (arith, n)) in
+    let d = Open 0 in
+    let here = step g.E.Engine.verdict (table_refusal g.E.Engine.cells (length l.table)) cs l.reply-items l.i d (get_or cs l.i d) c.perform.result (plan_view l.plan) (plan_view c.perform.new.plan)
+    refl (omega (arith, n, long, c.loop-i-test.true)) (omega (arith, c.loop-i-test.true, l.auto.reply-items)) l.invariant.0 c.perform.ensures.plan (l.invariant.1, l.invariant.2) c.perform.ensures.reply c.perform.ensures.exact in
+    let so = subst (λ (m : ℕ). So g.E.Engine.verdict (table_refusal g.E.Engine.cells m) (take (l.i + 1) cs) (reply_views (take (l.i + 1) (set l.reply-items l.i c.perform.result)))) (sym c.perform.auto.table) here.1 in
+    (here.0, so.0, so.1, plans_step cs l.i d c.perform.new.plan (omega (arith, n, long, c.loop-i-test.true)) here.0 l.invariant.3)
 
 pub returns : goal.returns
 returns g c =
     let l = c.loop-i in
-    let long = length-take-le c.min-count.result c.args.commands.now (omega (arith, c.min-count.ensures)) in
-    let here : l.i ≡ c.min-count.result = omega (arith, long, c.loop-i-test.false, l.auto.i-end) in
-    let so = subst (λ (m : ℕ). So g.E.Engine.verdict (table_refusal g.E.Engine.cells (length c.args.table.now)) (take m c.args.commands.now) (reply_views (take m l.replies))) here
-    (subst (λ (m : ℕ). So g.E.Engine.verdict (table_refusal g.E.Engine.cells m) (take l.i c.args.commands.now) (reply_views (take l.i l.replies))) l.auto.table (l.invariant.1, l.invariant.2)) in
-    record { count = c.min-count.ensures; rest = subst (λ (m : ℕ). drop m l.replies ≡ drop m c.args.replies.now) here l.invariant.4; law = so.0; valid = subst (λ (m : ℕ). PlansValid (take m c.args.commands.now)) here l.invariant.3; exact = so.1 }
+    let n = c.min-count.result in
+    let cs = c.args.commands.now in
+    let rest = drop n c.args.replies.now in
+    let long : length l.reply-items ≡ n = omega (arith, length-take-le n c.args.replies.now (omega (arith, c.min-count.ensures)), l.auto.reply-items) in
+    let here : l.i ≡ n = omega (arith, long, c.loop-i-test.false, l.auto.i-end, l.auto.reply-items) in
+    let so = subst (λ (m : ℕ). So g.E.Engine.verdict (table_refusal g.E.Engine.cells (length c.args.table.now)) (take m cs) (reply_views (take m l.reply-items))) here
+    (subst (λ (m : ℕ). So g.E.Engine.verdict (table_refusal g.E.Engine.cells m) (take l.i cs) (reply_views (take l.i l.reply-items))) l.auto.table (l.invariant.1, l.invariant.2)) in
+    let whole = subst (λ (rs : List Sent). So g.E.Engine.verdict (table_refusal g.E.Engine.cells (length c.args.table.now)) (take n cs) (reply_views rs)) (sym (take-append-le n l.reply-items rest (omega (arith, long)))) so in
+    record {
+      count = c.min-count.ensures;
+      rest = drop-append-le n l.reply-items rest (omega (arith, long)) ∙ ap (λ (rs : List Sent). rs ++ rest) (drop_all n l.reply-items (omega (arith, long)));
+      law = whole.0;
+      valid = subst (λ (m : ℕ). PlansValid (take m cs)) here l.invariant.3;
+      exact = whole.1;
+    }

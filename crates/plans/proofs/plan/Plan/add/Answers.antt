@@ -24,7 +24,7 @@ returns-then-self-ge-ROWS c =
     let v = plan_view s in
     let n = length_rules s in
     let last = first_refusal (kind_refusal (kind_of c.args.kind)) (row_refusal s.count c.args.coefficients.now c.args.side) in
-    let e = past_closed v (first_refusal (refused_if (leb most_rows (length v.rules)) Full) last) c.if-self-eq0.false
+    let e = past_closed v (first_refusal (refused_if (leb most_rows (length v.rules)) Full) last) c.in_ok-opened.ensures
     ∙ ap (λ (b : Bool). first_refusal (refused_if b Full) last) (le-leb most_rows (length v.rules) (omega arith)) in
     rw e (refl, refl)
 
@@ -32,8 +32,8 @@ pub returns-in_err-kind : goal.returns-in_err-kind
 returns-in_err-kind c =
     let s = c.args.self.now in
     let n = length_rules s in
-    let e = at_kind c.args.kind c.args.coefficients.now c.args.side (plan_view s) None c.if-self-eq0.false (omega arith) c.in_err-kind.ensures in
-    let p = err_from_is_err_and c.from_residual.result c.from_residual.ensures.1 in
+    let e = at_kind c.args.kind c.args.coefficients.now c.args.side (plan_view s) None c.in_ok-opened.ensures (omega arith) c.in_err-kind.ensures in
+    let p = err_from_is_err_and c.from_residual-in_err-kind.result c.from_residual-in_err-kind.ensures.1 in
     rw (p.1, p.2, e) (refl, refl)
 
 pub returns-in_err-row : goal.returns-in_err-row
@@ -43,7 +43,7 @@ returns-in_err-row c =
     let side = c.args.side in
     let n = length_rules s in
     let k = c.in_ok-kind.kind in
-    let e = at_kind c.args.kind cs side (plan_view s) (Some k) c.if-self-eq0.false (omega arith) c.in_ok-kind.ensures
+    let e = at_kind c.args.kind cs side (plan_view s) (Some k) c.in_ok-opened.ensures (omega arith) c.in_ok-kind.ensures
     ∙ refused_at s.count k cs side (to_z w32 (of_z w32 side)) (to_z-of_z w32 side c.ranges.side) c.in_err-row.field-0.0 c.in_err-row.ensures in
     let p = err_from_is_err_and c.from_residual-in_err-row.result c.from_residual-in_err-row.ensures.1 in
     rw (p.1, p.2, e) (refl, refl)
@@ -77,7 +77,7 @@ returns c =
     let rule : Rule = record { row = row; sounds = true } in
     let read = c.in_ok-kind.ensures in
     let m = made_at s.count k cs side (to_z w32 (of_z w32 side)) (to_z-of_z w32 side c.ranges.side) row c.in_ok-row.ensures in
-    let e = at_kind c.args.kind cs side (plan_view s) (Some k) c.if-self-eq0.false (omega arith) read ∙ m.0 in
+    let e = at_kind c.args.kind cs side (plan_view s) (Some k) c.in_ok-opened.ensures (omega arith) read ∙ m.0 in
     let new : (rule_view rule ∷ []) ≡ new_rule (kind_of c.args.kind) cs side =
     ap (λ (v : RuleView). v ∷ []) (ap (λ (t : Constraint). record { row = t; sounds = true }) m.1) ∙ ap (λ (o : Option Kind). new_rule o cs side) read in
     rw e (ap (λ (rs : List RuleView). record { count = s.count; rules = rs })

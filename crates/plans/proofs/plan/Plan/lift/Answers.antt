@@ -24,8 +24,8 @@ returns c =
     let s = c.args.self.now in
     let v = plan_view s in
     let n = length_rules s in
-    let up : suc (s.len - 1) ≡ s.len = omega (arith, c.if-self-eq0-2.false) in
-    let e = past_closed v (refused_if (eqb (length v.rules) 0) NoRule) c.if-self-eq0.false
-    ∙ ap (λ (b : Bool). refused_if b NoRule) (ne_eqb (length v.rules) 0 (λ z. c.if-self-eq0-2.false (omega arith))) in
+    let up : suc (s.len - 1) ≡ s.len = omega (arith, c.if-self-eq0.false) in
+    let e = past_closed v (refused_if (eqb (length v.rules) 0) NoRule) c.in_ok-opened.ensures
+    ∙ ap (λ (b : Bool). refused_if b NoRule) (ne_eqb (length v.rules) 0 (λ z. c.if-self-eq0.false (omega arith))) in
     rw e (ap (λ (rs : List RuleView). record { count = s.count; rules = rs })
     (rules_less s.rules (s.len - 1) (omega (arith, s.short, s.places)) ∙ ap (λ (m : ℕ). without_last (rule_views (take m s.rules))) up))

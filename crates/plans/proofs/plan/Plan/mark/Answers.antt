@@ -16,7 +16,7 @@ returns-then-number-self c =
     let i = c.args.number in
     let b = c.args.sounds in
     let n = length_rules s in
-    let e = past_closed v (same_mark_refusal b (mark_at v.rules i)) c.if-self-eq0.false ∙ ap (same_mark_refusal b) (mark_past v.rules i (omega arith)) in
+    let e = past_closed v (same_mark_refusal b (mark_at v.rules i)) c.in_ok-opened.ensures ∙ ap (same_mark_refusal b) (mark_past v.rules i (omega arith)) in
     rw e (refl, refl)
 
 pub returns-then-self-number : goal.returns-then-self-number
@@ -25,7 +25,7 @@ returns-then-self-number c =
     let v = plan_view s in
     let i = c.args.number in
     let b = c.args.sounds in
-    let e = past_closed v (same_mark_refusal b (mark_at v.rules i)) c.if-self-eq0.false
+    let e = past_closed v (same_mark_refusal b (mark_at v.rules i)) c.in_ok-opened.ensures
     ∙ ap (same_mark_refusal b) (mark_is s.rules s.len i c.index-self-number.result (omega arith) (omega (arith, s.short, s.places)))
     ∙ ap (λ (t : Bool). refused_if t (already b)) c.if-self-number.true in
     rw e (c.already.ensures, refl)
@@ -48,7 +48,7 @@ returns c =
     let i = c.args.number in
     let b = c.args.sounds in
     let x : Rule = record { row = (get_or s.rules i c.index-self-number-2.result).row; sounds = b } in
-    let e = past_closed v (same_mark_refusal b (mark_at v.rules i)) c.if-self-eq0.false
+    let e = past_closed v (same_mark_refusal b (mark_at v.rules i)) c.in_ok-opened.ensures
     ∙ ap (same_mark_refusal b) (mark_is s.rules s.len i c.index-self-number.result (omega arith) (omega (arith, s.short, s.places)))
     ∙ ap (λ (t : Bool). refused_if t (already b)) c.if-self-number.false in
     rw e (ap (λ (rs : List RuleView). record { count = s.count; rules = rs })

@@ -1,7 +1,0 @@
--- What `push` leaves to show. Assumes nothing.
-use Rattle.std.proofs.Common.{refl, arith}
-use Rattle.std.proofs.lemmas.List.{take_more_set}
-use Rattle.protocol.proofs.line.Line.push.Goals as goal
-
-pub returns : goal.returns
-returns c = record { bytes = take_more_set c.args.self.now.bytes c.args.self.now.len c.args.byte (omega arith); len = refl }
