@@ -20,6 +20,7 @@ impl Fault {
 
 impl Cause {
     // Its number, beside which another maker's cause keeps its own.
+    // kept: a method, as `Refusal::number` is: `u8::from(cause)` would look as if nothing were lost
     pub fn number(self) -> u8
         ensures { result ≡ cause_number self }
     {
