@@ -5,3 +5,4 @@ pub mod Claims
 pub mod Edits
 pub mod Follows
 pub mod Tallies
+pub mod Texts

@@ -1,6 +1,7 @@
 // The text of places, numbers and rules, in the form that a plan is written in. Assumes nothing.
 ghost use Rattle.std.specs.Prelude.{◌≡◌};
 ghost use Rattle.plancheck.specs.Tallies.{more};
+ghost use Rattle.plancheck.specs.Texts.{ending};
 
 use plans::Plan;
 use plantext::Numbers;
@@ -15,7 +16,9 @@ pub fn from_one(place: usize) -> usize
 }
 
 // The end of a word for so many things.
-pub fn ending(n: usize) -> &'static str {
+pub fn ending(n: usize) -> &'static str
+    ensures { result.now ≡ ending n }
+{
     if n == 1 { "" } else { "s" }
 }
 
