@@ -6,6 +6,7 @@ pub mod Lines
 pub mod Appends
 pub mod Choosing
 pub mod Limiting
+pub mod Orders
 pub mod Tightest
 pub mod Soundness
 pub mod Alls

@@ -9,6 +9,7 @@ use Rattle.elimination.specs.Levels.{Limit, better_upper, better_lower}
 use Rattle.elimination.specs.Limiting.{limit_of}
 use Rattle.elimination.specs.Unders.{Under, ex, cross}
 use Rattle.elimination.specs.Between.{Proper, compared, denied}
+use Rattle.elimination.specs.Orders.{Total, Chain}
 
 -- the test fails where the order denies it
 refuted : (a b : ℤ) (s t : Bool) → Under (s && not t) a b → compared a b s t ≡ false
@@ -66,13 +67,6 @@ module _ (x y z : Limit) (px : Proper x) (py : Proper y) (pz : Proper z) where
       (cross z.numerator z.denominator y.numerator y.denominator x.numerator x.denominator (z.strict && not y.strict) (y.strict && not x.strict) (z.strict && not x.strict) pz py px (omega (arith, either x.strict y.strict z.strict))
       (denied (z.numerator *ℤ pos y.denominator) (y.numerator *ℤ pos z.denominator) z.strict y.strict q)
       (denied (y.numerator *ℤ pos x.denominator) (x.numerator *ℤ pos y.denominator) y.strict x.strict p))
-
--- by a test for the better limit: of any two limits one is not worse than the other, and not worse than not worse is not worse
-abbrev pub Total : (Limit → Limit → Bool) → Type 0
-Total better = (x y : Held) → not (better (limit_of y) (limit_of x)) ≡ false → not (better (limit_of x) (limit_of y)) ≡ true
-
-abbrev pub Chain : (Limit → Limit → Bool) → Type 0
-Chain better = (x y z : Held) → not (better (limit_of y) (limit_of x)) ≡ true → not (better (limit_of z) (limit_of y)) ≡ true → not (better (limit_of z) (limit_of x)) ≡ true
 
 -- the laws of the choice
 module _ (better : Limit → Limit → Bool) where

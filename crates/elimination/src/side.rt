@@ -5,7 +5,8 @@ ghost use Rattle.elimination.specs.Levels.{better_upper, better_lower};
 ghost use Rattle.elimination.specs.Levels.{Limit as Bound};
 ghost use Rattle.elimination.specs.Limiting.{limit_of};
 ghost use Rattle.elimination.specs.Blending.{positive_is, negative_is};
-ghost use Rattle.elimination.specs.Ranking.{Total, Chain, uppers_total, uppers_chain, lowers_total, lowers_chain};
+ghost use Rattle.elimination.specs.Orders.{Total, Chain};
+ghost use Rattle.elimination.specs.Ranking.{uppers_total, uppers_chain, lowers_total, lowers_chain};
 
 use crate::limit::Limit;
 use crate::tighter::{across, precedes};

@@ -41,7 +41,7 @@ Says n (Verdict.clash ws) (Err e) = ⊥
 Says n (Verdict.fault f) (Ok a) = ⊥
 
 -- what was found of the rows becomes the answer; a fault is the reply, and empties the answer
-abbrev pub Settled : {U : Type 0} → Result Kept Fault → View → Result U Refusal → View → Type 0
-Settled (Ok a) v r w = Does None (answered v (said (length v.rows) a)) v r w
+abbrev pub Settled : {U : Type 0} → Result (Option Kept) Fault → View → Result U Refusal → View → Type 0
+Settled (Ok a) v r w = Does None (answered v (kept_answer (length v.rows) a)) v r w
 Settled (Err f) v (Ok u) w = ⊥
 Settled (Err f) v (Err e) w = (e ≡ TooLarge f) × (w ≡ answered v Answer.none)

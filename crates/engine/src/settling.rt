@@ -22,13 +22,13 @@ impl State {
         Ok(())
     }
 
-    // What was found of the rows becomes the answer; a fault empties it.
-    pub fn settle(&mut self, found: Result<Answer, Fault>) -> Result<(), Refusal>
+    // What was found of the rows becomes the answer, also where that is none; a fault empties it.
+    pub fn settle(&mut self, found: Result<Option<Answer>, Fault>) -> Result<(), Refusal>
         ensures { Settled found (state_view self.old) result (state_view self.new) }
     {
         match found {
             Ok(answer) => {
-                self.answer = Some(answer);
+                self.answer = answer;
                 Ok(())
             }
             Err(fault) => {

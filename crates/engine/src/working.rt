@@ -83,7 +83,7 @@ impl<W: Working> Engine for WorkingEngine<W> {
     fn decide(&mut self, table: &mut [W::Cell]) -> Result<(), Refusal> {
         self.state.ready(table.len(), W::table_size())?;
         let found = self.working.work_out(&self.state, table);
-        self.state.settle(found)
+        self.state.settle(found.map(Some))
     }
 
     fn numerator(&self, fader: u8) -> Result<i32, Refusal> {

@@ -6,7 +6,7 @@ use crate::bounds::ROWS;
 use crate::row::Row;
 
 // At most sixteen rows.
-// kept: fixed memory; and not the generic `ShortList` of the crate `substitution`, since states are copied and a type with a Model cannot be `Copy` yet
+// kept: fixed memory; and not the generic `ShortList` of the crate `substitution`, since states are copied, and a type that clauses see as a list is `Copy` only where the list gives its array back
 #[derive(Clone, Copy)]
 pub struct RowList {
     // the first `len` of them are the list
