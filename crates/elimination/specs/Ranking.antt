@@ -4,7 +4,6 @@ use Rattle.std.proofs.Common.{arith}
 use borrow.Author.Differences.{lt-true, lt-false}
 use Rattle.std.proofs.lemmas.Bool.{false≢true, not-true, not-false, not_from_false}
 use Rattle.integers.proofs.Linear.{linear}
-use Rattle.elimination.specs.declared.limit.Limit.{Limit as Held}
 use Rattle.elimination.specs.Levels.{Limit, better_upper, better_lower}
 use Rattle.elimination.specs.Limiting.{limit_of}
 use Rattle.elimination.specs.Unders.{Under, ex, cross}

@@ -40,6 +40,12 @@ taken_equation rows xs place d b h e f is = subst (λ (x : Held). is_equation x.
 abbrev pub ahead_at : List Held → List HeldPivot → ℕ → Reduced
 ahead_at rows pivots place = reduced (length rows - place) (take place (kepts rows)) (drop place (kepts rows)) (latest_first pivots [])
 
+-- before any row is looked at, and with no pivot
+pub ahead_first : (rows : List Held) (pivots : List HeldPivot) → pivots ≡ [] → ahead_at rows pivots 0 ≡ reduced (length rows) [] (kepts rows) []
+ahead_first rows pivots e =
+    let n : length rows - 0 ≡ length rows = omega arith in
+    λ j. reduced (n j) [] (kepts rows) (latest_first (e j) [])
+
 -- the row k is looked at
 module _ (rows : List Held) (pivots : List HeldPivot) (place : ℕ) (k : Held) (g : place < length rows) (e : k ≡ get_or rows place k) where
   found : List Pivot

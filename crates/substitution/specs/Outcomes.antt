@@ -17,10 +17,10 @@ ahead_after r (Err (Clash w)) = clashing w.values
 ahead_after r (Err (Beyond f)) = faulty f
 
 -- what a finished reduction says
-abbrev pub finished : Result Reduction Stop → Reduced
-finished (Ok r) = left (kepts r.rows) (latest_first r.pivots [])
-finished (Err (Clash w)) = clashing w.values
-finished (Err (Beyond f)) = faulty f
+abbrev pub finished : Reduction → Result (Unit {0}) Stop → Reduced
+finished r (Ok done) = left (kepts r.rows) (latest_first r.pivots [])
+finished r (Err (Clash w)) = clashing w.values
+finished r (Err (Beyond f)) = faulty f
 
 -- one place is done: fewer rows are still to be looked at, and rows and pivots together are no more
 pub record Onward (p q : Reduction) : Type 0 where
@@ -32,6 +32,6 @@ OnwardAfter p q (Ok done) = Onward p q
 OnwardAfter p q (Err stop) = Unit {0}
 
 -- how many rows and pivots are left of so many rows
-abbrev pub FewLeft : Result Reduction Stop → ℕ → Type 0
-FewLeft (Ok r) n = length r.rows + length r.pivots ≤ n
-FewLeft (Err stop) n = Unit {0}
+abbrev pub FewLeft : Reduction → Result (Unit {0}) Stop → ℕ → Type 0
+FewLeft r (Ok done) n = length r.rows + length r.pivots ≤ n
+FewLeft r (Err stop) n = Unit {0}

@@ -7,7 +7,9 @@ ghost use Rattle.substitution.specs.Soundness.{sound_over};
 
 use crate::below::decide_left;
 use crate::filling::standing;
-use crate::reducing::reduce;
+use crate::kept::Pivot;
+use crate::reduction::Reduction;
+use crate::short_list::ShortList;
 use crate::stop::Stop;
 use engine::{Answer, Engine, Fault, State, Working, WorkingEngine};
 
@@ -35,8 +37,13 @@ impl<E: Engine> Working for Substituting<E> {
 
     fn work_out(&mut self, state: &State, table: &mut [E::Cell]) -> Result<Answer, Fault> {
         let rows = state.rows.as_slice();
-        match reduce(standing(rows)) {
-            Ok(end) => decide_left(
+        let mut end = Reduction {
+            rows: standing(rows),
+            pivots: ShortList::new(Pivot::blank()),
+            place: 0,
+        };
+        match end.reduce() {
+            Ok(()) => decide_left(
                 &mut self.below,
                 state.count,
                 end.rows.as_slice(),

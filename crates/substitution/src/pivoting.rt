@@ -1,8 +1,9 @@
 // One equation put to use: the fader that it is solved for, that fader cancelled in the other rows, and what it says without one. Assumes nothing.
-ghost use Rattle.std.specs.Prelude.{◌≡◌, ◌/◌, ◌<◌, length, pos, negsuc, IfSome, MatchResult, Some, None, slice_index_or, unsigned_abs};
+ghost use Rattle.std.specs.Prelude.{◌≡◌, ◌/◌, ◌<◌, ◌≤◌, length, take, pos, negsuc, IfSome, MatchResult, Some, None, slice_index_or, unsigned_abs};
 ghost use Rattle.std.specs.Option.{option_map};
 ghost use Rattle.integers.specs.Divisors.{gcd_of};
 ghost use Rattle.integers.specs.Vectors.{scale};
+ghost use Rattle.rows.specs.Limits.{most_rows};
 ghost use Rattle.rows.specs.Carrying.{numbers_of};
 ghost use Rattle.engine.specs.Verdicts.{number_beyond};
 ghost use Rattle.substitution.specs.Reduction.{first_fader, pivot_factor, cancel_one, cancel_all, contradiction};
@@ -67,16 +68,23 @@ impl Pivot {
         Ok(())
     }
 
+    // The same for the first rows of an array.
+    fn cancel_first(&self, rows: &mut [Kept; ROWS], held: usize) -> Result<(), Fault>
+        requires { held ≤ most_rows }
+        ensures places { length rows.new ≡ most_rows }
+        ensures value { MatchResult result (λ _. cancel_all self.now.fader.index (numbers_of self.now.row) (kepts (take held rows.old)) ≡ Some (kepts (take held rows.new))) (λ f. (cancel_all self.now.fader.index (numbers_of self.now.row) (kepts (take held rows.old)) ≡ None) × (f ≡ number_beyond self.now.fader.index)) }
+    {
+        self.cancel_each(&mut rows[..held])
+    }
+
     // The same for the rows of a list.
-    // kept: the rows are written in a copy of the array, since a proof knows nothing of a write through a part of an array in a field.
+    // kept: the array is lent whole, since a proof knows nothing of a write through a part of an array in a field.
     pub fn cancel_all(&self, rows: &mut ShortList<Kept>) -> Result<(), Fault>
         ensures len { length rows.new ≡ length rows.old }
         ensures value { MatchResult result (λ _. cancel_all self.now.fader.index (numbers_of self.now.row) (kepts rows.old) ≡ Some (kepts rows.new)) (λ f. (cancel_all self.now.fader.index (numbers_of self.now.row) (kepts rows.old) ≡ None) × (f ≡ number_beyond self.now.fader.index)) }
     {
-        let mut items = rows.items;
-        self.cancel_each(&mut items[..rows.len])?;
-        rows.items = items;
-        Ok(())
+        let held = rows.len;
+        self.cancel_first(&mut rows.items, held)
     }
 }
 

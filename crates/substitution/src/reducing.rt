@@ -1,13 +1,10 @@
 // The equations of a list substituted away, one row after another. Assumes nothing.
-ghost use Rattle.std.specs.Prelude.{◌≡◌, ◌<◌, [], length};
-ghost use Rattle.substitution.specs.Reduction.{reduced};
-ghost use Rattle.substitution.specs.Holding.{kepts};
+ghost use Rattle.std.specs.Prelude.{◌≡◌, ◌+◌, ◌<◌, length};
 ghost use Rattle.substitution.specs.Outcomes.{ahead, ahead_after, finished, OnwardAfter, FewLeft};
 
-use crate::kept::{Kept, Pivot};
+use crate::kept::Pivot;
 use crate::pivoting::{contradiction, first_fader};
 use crate::reduction::Reduction;
-use crate::short_list::ShortList;
 use crate::stop::Stop;
 use rows::Kind;
 
@@ -34,21 +31,16 @@ impl Reduction {
         self.pivots.push(pivot);
         Ok(())
     }
-}
 
-// Substitutes the equations among the rows away. The rows that are left stand in their order, and the pivots in the order in which they were found.
-pub fn reduce(rows: ShortList<Kept>) -> Result<Reduction, Stop>
-    ensures value { finished result ≡ reduced (length rows) [] (kepts rows) [] }
-    ensures few { FewLeft result (length rows) }
-{
-    let mut reduction = Reduction {
-        rows,
-        pivots: ShortList::new(Pivot::blank()),
-        place: 0,
-    };
-    // kept: the place moves on only past a row that stays, so that no range or iterator gives it.
-    while reduction.place < reduction.rows.as_slice().len() {
-        reduction.look()?;
+    // Substitutes the equations among the rows away. The rows that are left stand in their order, and the pivots in the order in which they were found.
+    pub fn reduce(&mut self) -> Result<(), Stop>
+        ensures value { finished self.new result ≡ ahead self.old }
+        ensures few { FewLeft self.new result (length self.old.rows + length self.old.pivots) }
+    {
+        // kept: the place moves on only past a row that stays, so that no range or iterator gives it.
+        while self.place < self.rows.as_slice().len() {
+            self.look()?;
+        }
+        Ok(())
     }
-    Ok(reduction)
 }

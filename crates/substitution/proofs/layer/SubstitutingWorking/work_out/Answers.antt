@@ -4,30 +4,39 @@ use Rattle.substitution.specs.declared.stop.Stop.{Stop}
 use Rattle.substitution.specs.Reduction.{Reduced.clashing, Reduced.faulty, Reduced.left}
 use Rattle.substitution.specs.Holding.{kepts, latest_first}
 use Rattle.substitution.specs.Outcomes.{finished}
+use Rattle.substitution.proofs.Looks.{ahead_first}
 use Rattle.substitution.proofs.Returning.{left_valid, worked_out}
 use Rattle.substitution.proofs.layer.SubstitutingWorking.work_out.Goals as goal
 
 pub decide_left-requires-clause-valid : goal.decide_left-requires-clause-valid
 decide_left-requires-clause-valid g c =
     let s = c.args.state.now in
-    let end = c.in-Ok.end in
-    rw c.as_slice.ensures (left_valid s c.standing.result (left (kepts end.rows) (latest_first end.pivots [])) (rw c.as_slice-rows.ensures.value at c.standing.ensures) c.in-Ok.ensures.value c.requires.started)
+    let end = c.reduce.new.self in
+    let held = c.standing.result in
+    let done = c.in-Ok.ensures.value ∙ ahead_first held c.new.result c.new.ensures in
+    rw c.as_slice.ensures (left_valid s held (left (kepts end.rows) (latest_first end.pivots [])) (rw c.as_slice-rows.ensures.value at c.standing.ensures) done c.requires.started)
 
 pub returns-in-Ok : goal.returns-in-Ok
 returns-in-Ok g c =
     let s = c.args.state.now in
-    let end = c.in-Ok.end in
+    let end = c.reduce.new.self in
+    let held = c.standing.result in
+    let done = c.in-Ok.ensures.value ∙ ahead_first held c.new.result c.new.ensures in
     let says = rw (c.as_slice.ensures, c.as_slice-in-Ok.ensures, c.as_slice-rows.ensures.value) at c.decide_left.ensures in
-    worked_out s c.standing.result (left (kepts end.rows) (latest_first end.pivots [])) (rw c.as_slice-rows.ensures.value at c.standing.ensures) c.in-Ok.ensures.value g.E.Engine.verdict c.decide_left.result says
+    worked_out s held (left (kepts end.rows) (latest_first end.pivots [])) (rw c.as_slice-rows.ensures.value at c.standing.ensures) done g.E.Engine.verdict c.decide_left.result says
 
 pub returns-in-Err-Clash : goal.returns-in-Err-Clash
 returns-in-Err-Clash g c =
     let w = c.in-Err-Clash.weights in
-    let done = ap (λ (t : Stop). finished (Err t)) (sym c.in-Err-Clash.field-0-is) ∙ c.in-Err-Clash.ensures.value in
-    rw c.in-Err-Clash.weights-is (worked_out c.args.state.now c.standing.result (clashing w.values) (rw c.as_slice-rows.ensures.value at c.standing.ensures) done g.E.Engine.verdict (Ok (Clash w)) refl)
+    let held = c.standing.result in
+    let told = ap (λ (t : Stop). finished c.reduce.new.self (Err t)) (sym c.in-Err-Clash.field-0-is) ∙ c.in-Err-Clash.ensures.value in
+    let done = told ∙ ahead_first held c.new.result c.new.ensures in
+    rw c.in-Err-Clash.weights-is (worked_out c.args.state.now held (clashing w.values) (rw c.as_slice-rows.ensures.value at c.standing.ensures) done g.E.Engine.verdict (Ok (Clash w)) refl)
 
 pub returns-in-Err-Beyond : goal.returns-in-Err-Beyond
 returns-in-Err-Beyond g c =
     let f = c.in-Err-Beyond.fault in
-    let done = ap (λ (t : Stop). finished (Err t)) (sym c.in-Err-Beyond.field-0-is) ∙ c.in-Err-Beyond.ensures.value in
-    rw c.in-Err-Beyond.fault-is (worked_out c.args.state.now c.standing.result (faulty f) (rw c.as_slice-rows.ensures.value at c.standing.ensures) done g.E.Engine.verdict (Err f) refl)
+    let held = c.standing.result in
+    let told = ap (λ (t : Stop). finished c.reduce.new.self (Err t)) (sym c.in-Err-Beyond.field-0-is) ∙ c.in-Err-Beyond.ensures.value in
+    let done = told ∙ ahead_first held c.new.result c.new.ensures in
+    rw c.in-Err-Beyond.fault-is (worked_out c.args.state.now held (faulty f) (rw c.as_slice-rows.ensures.value at c.standing.ensures) done g.E.Engine.verdict (Err f) refl)
