@@ -41,4 +41,4 @@ best_lower k p t = option_map (first_best better_lower) (lower_limits k p t)
 
 -- the limits that are found, in order
 abbrev pub found_limits : {S : Type 0} → Found S → List Limit
-found_limits f = map (λ b. limit_of b.limit) (take f.count f.limits)
+found_limits f = map (λ b. limit_of b.limit) (take f.count f.limits.now)

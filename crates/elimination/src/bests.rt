@@ -1,6 +1,6 @@
 // The best limit of one fader on one side, over the rows of a table that are set aside for it.
-// Assumes, where a function requires it, that there is a place for one limit more.
-ghost use Rattle.std.specs.Prelude.{◌≡◌, ◌+◌, ◌<◌, false, [], ◌∷◌, ◌++◌, pos};
+// Assumes, where a function requires it, that as many places are lent as a table has rows at most, that no limit is found yet, and that there is a place for one limit more.
+ghost use Rattle.std.specs.Prelude.{◌≡◌, ◌+◌, ◌<◌, false, [], ◌∷◌, ◌++◌, length, pos};
 ghost use Rattle.std.specs.Option.{option_map};
 ghost use Rattle.std.specs.Result.{result_ok};
 ghost use Rattle.elimination.specs.Lines.{line};
@@ -29,16 +29,14 @@ fn blank() -> Limit
     }
 }
 
-impl<S: Side> Found<S> {
-    // None yet.
-    fn new() -> Found<S>
+impl<'a, S: Side> Found<'a, S> {
+    // None yet, in the places that are lent.
+    fn new(limits: &'a mut [Bounding<S>]) -> Found<'a, S>
+        requires { length limits.old ≡ room }
         ensures none { found_limits result ≡ [] }
         ensures count { result.count ≡ 0 }
     {
-        Found {
-            limits: [Bounding::new(blank()); ROOM],
-            count: 0,
-        }
+        Found { limits, count: 0 }
     }
 
     // One more, after the others.
@@ -69,23 +67,26 @@ impl Setting<'_> {
         cell.aside == Some(self.fader.index) && S::limits(cell.row.coefficients[self.fader.place()])
     }
 
-    // The limits, in table order, unless one is beyond G.
-    fn find_limits<S: Side>(&self) -> Result<Found<S>, Beyond>
-        ensures { option_map found_limits (result_ok result) ≡ limits_by S.limits S.turned self.now.fader.index self.now.levels.now self.now.table.now }
+    // Finds the limits, in table order, unless one is beyond G.
+    fn find_limits<S: Side>(&self, found: &mut Found<'_, S>) -> Result<(), Beyond>
+        requires { found.old.count ≡ 0 }
+        ensures { option_map (λ _. found_limits found.new) (result_ok result) ≡ limits_by S.limits S.turned self.now.fader.index self.now.levels.now self.now.table.now }
     {
-        let mut found = Found::new();
         for cell in self.table {
             if self.bounds::<S>(cell) {
                 found.push(self.limit_on::<S>(cell)?);
             }
         }
-        Ok(found)
+        Ok(())
     }
 
     // The best limit, if there is any, unless one is beyond G.
     pub fn best_limit<S: Side>(&self) -> Result<Option<Limit>, Beyond>
         ensures { option_map (option_map limit_of) (result_ok result) ≡ best_by S.limits S.turned S.tighter self.now.fader.index self.now.levels.now self.now.table.now }
     {
-        Ok(self.find_limits::<S>()?.best())
+        let mut limits = [Bounding::new(blank()); ROOM];
+        let mut found = Found::new(&mut limits);
+        self.find_limits::<S>(&mut found)?;
+        Ok(found.best())
     }
 }

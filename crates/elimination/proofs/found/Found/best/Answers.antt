@@ -10,6 +10,6 @@ returns g c =
     let s = c.args.self.now in
     let i = c.in_ok-i.i in
     let x = c.index-self-i.result in
-    let h : i < s.count = omega (arith, c.in_ok-i.ensures.within, length-take s.count s.limits) in
-    ap (λ b. Some (limit_of b.limit)) (sym (get_or-take s.count s.limits i x h))
-    ∙ one_best (λ b. limit_of b.limit) g.S.Side.tighter (λ x y. m.total x.limit y.limit) (λ x y z. m.chain x.limit y.limit z.limit) (take s.count s.limits) i x c.in_ok-i.ensures
+    let h : i < s.count = omega (arith, c.in_ok-i.ensures.within, length-take s.count s.limits.now) in
+    ap (λ b. Some (limit_of b.limit)) (sym (get_or-take s.count s.limits.now i x h))
+    ∙ one_best (λ b. limit_of b.limit) g.S.Side.tighter (λ x y. m.total x.limit y.limit) (λ x y z. m.chain x.limit y.limit z.limit) (take s.count s.limits.now) i x c.in_ok-i.ensures
