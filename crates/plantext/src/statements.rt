@@ -7,7 +7,7 @@ use crate::cut::uncommented;
 use crate::problem::Problem;
 use crate::statement::Statement;
 use crate::word::Word;
-use crate::words::{Words, after_numbers, front_numbers, next_word, one_number};
+use crate::words::{Words, front_numbers, next_word, one_number};
 
 // Whether all words of a text are known.
 fn check_words(text: &[u8]) -> Result<(), Problem>
@@ -23,32 +23,33 @@ fn check_words(text: &[u8]) -> Result<(), Problem>
 fn read_rule(text: &[u8]) -> Result<Statement, Problem>
     ensures { result ≡ rule (front_numbers (words_of text.now)) (after_numbers (words_of text.now)) }
 {
-    let Some((Ok(Word::Compare(kind)), rest)) = next_word(after_numbers(text)) else {
+    let (coefficients, rest) = front_numbers(text);
+    let Some((Ok(Word::Compare(kind)), rest)) = next_word(rest) else {
         return Err(Problem::NoStatement);
     };
     let side = one_number(rest)?;
-    let coefficients = front_numbers(text)?;
-    Ok(Statement::Rule(coefficients, kind, side))
+    Ok(Statement::Rule(coefficients?, kind, side))
 }
 
 // A preset after its first word: numerators, a slash and the denominator.
 fn read_preset(text: &[u8]) -> Result<Statement, Problem>
     ensures { result ≡ preset (front_numbers (words_of text.now)) (after_numbers (words_of text.now)) }
 {
-    let Some((Ok(Word::Slash), rest)) = next_word(after_numbers(text)) else {
+    let (numerators, rest) = front_numbers(text);
+    let Some((Ok(Word::Slash), rest)) = next_word(rest) else {
         return Err(Problem::NoStatement);
     };
     let denominator = one_number(rest)?;
-    let numerators = front_numbers(text)?;
-    Ok(Statement::Preset(numerators, denominator))
+    Ok(Statement::Preset(numerators?, denominator))
 }
 
 // A clash after its first word: weights.
 fn read_clash(text: &[u8]) -> Result<Statement, Problem>
     ensures { result ≡ clash (front_numbers (words_of text.now)) (after_numbers (words_of text.now)) }
 {
-    match next_word(after_numbers(text)) {
-        None => Ok(Statement::Clash(front_numbers(text)?)),
+    let (weights, rest) = front_numbers(text);
+    match next_word(rest) {
+        None => Ok(Statement::Clash(weights?)),
         Some(_) => Err(Problem::NoStatement),
     }
 }

@@ -36,28 +36,19 @@ impl<'a> Iterator for Words<'a> {
     }
 }
 
-// The numbers at the front of a text.
-pub fn front_numbers(text: &[u8]) -> Result<Numbers, Problem>
-    ensures { result ≡ held (front_numbers (words_of text.now)) }
+// The numbers at the front of a text, and the text after them.
+pub fn front_numbers(text: &[u8]) -> (Result<Numbers, Problem>, &[u8])
+    ensures numbers { result.0 ≡ held (front_numbers (words_of text.now)) }
+    ensures rest { words_of result.1.now ≡ after_numbers (words_of text.now) }
 {
     let mut numbers = Numbers::new();
+    let mut pushed = Ok(());
     let mut rest = text;
     while let Some((Ok(Word::Number(n)), after)) = next_word(rest) {
-        numbers.push(n)?;
+        pushed = pushed.and(numbers.push(n));
         rest = after;
     }
-    Ok(numbers)
-}
-
-// The text after the numbers at its front.
-pub fn after_numbers(text: &[u8]) -> &[u8]
-    ensures { words_of result.now ≡ after_numbers (words_of text.now) }
-{
-    let mut rest = text;
-    while let Some((Ok(Word::Number(_)), after)) = next_word(rest) {
-        rest = after;
-    }
-    rest
+    (pushed.map(|()| numbers), rest)
 }
 
 // A text that is one number.
