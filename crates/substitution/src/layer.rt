@@ -37,17 +37,19 @@ impl<E: Engine> Working for Substituting<E> {
 
     fn work_out(&mut self, state: &State, table: &mut [E::Cell]) -> Result<Answer, Fault> {
         let rows = state.rows.as_slice();
-        let mut end = Reduction {
-            rows: standing(rows),
-            pivots: ShortList::new(Pivot::blank()),
+        let mut held = standing(rows);
+        let mut pivots = ShortList::new(Pivot::blank());
+        let mut reduction = Reduction {
+            rows: &mut held,
+            pivots: &mut pivots,
             place: 0,
         };
-        match end.reduce() {
+        match reduction.reduce() {
             Ok(()) => decide_left(
                 &mut self.below,
                 state.count,
-                end.rows.as_slice(),
-                end.pivots.as_slice(),
+                reduction.left(),
+                reduction.solved(),
                 rows.len(),
                 table,
             ),

@@ -6,11 +6,12 @@ use crate::kept::{Kept, Pivot};
 use crate::short_list::ShortList;
 
 // The rows that stand, the pivots in the order in which they were found, and the place of the row that is looked at next.
+// kept: the lists are lent, since moving them into it would copy their arrays
 #[derive(Drop)]
-pub struct Reduction {
-    pub rows: ShortList<Kept>,
-    pub pivots: ShortList<Pivot>,
+pub struct Reduction<'a> {
+    pub rows: &'a mut ShortList<Kept>,
+    pub pivots: &'a mut ShortList<Pivot>,
     pub place: usize,
-    ghost inside: { place ≤ length rows },
-    ghost room: { length rows + length pivots ≤ most_rows },
+    ghost inside: { place ≤ length rows.now },
+    ghost room: { length rows.now + length pivots.now ≤ most_rows },
 }

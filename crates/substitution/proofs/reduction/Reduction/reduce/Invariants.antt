@@ -5,7 +5,7 @@ use Rattle.substitution.proofs.reduction.Reduction.reduce.Given as goal
 abbrev pub invariant-loop-self : goal.invariant-loop-self
 invariant-loop-self l =
     (ahead l.self ≡ ahead l.initial.self)
-    × (length l.self.rows + length l.self.pivots ≤ length l.initial.self.rows + length l.initial.self.pivots)
+    × (length l.self.rows.now + length l.self.pivots.now ≤ length l.initial.self.rows.now + length l.initial.self.pivots.now)
 
 abbrev pub decreases-loop-self : goal.decreases-loop-self
-decreases-loop-self l = length l.self.rows - l.self.place
+decreases-loop-self l = length l.self.rows.now - l.self.place
