@@ -70,7 +70,8 @@ impl Preset {
     pub fn first_unmet(&self, rows: &[Row]) -> Option<usize>
         ensures { MatchOption result (MeetsAll self.now.numerators self.now.denominator (constraints rows.now)) (λ i. FirstUnmet self.now.numerators self.now.denominator (constraints rows.now) i) }
     {
-        rows.iter().position(|row| !self.meets(row))
+        let unmet = rows.iter().position(|row| !self.meets(row))?;
+        Some(unmet)
     }
 
     // Whether the levels meet all rows; then some levels do.
