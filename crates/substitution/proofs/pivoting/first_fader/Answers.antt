@@ -1,4 +1,4 @@
-use Rattle.std.proofs.Common.{◌≡◌, ◌==◌, ℕ, suc, ◌+◌, Bool, true, false, cond, ltb, List, [], ◌∷◌, ℤ, nat_abs, not, Some, sym, ap, ◌∙◌, refl, w32, of_z, rules, tests, eqb-true}
+use Rattle.std.proofs.Common.{◌≡◌, ◌==◌, ℕ, suc, ◌+◌, Bool, true, false, cond, ltb, List, [], ◌∷◌, ℤ, nat_abs, not, Some, sym, ap, ◌∙◌, refl, arith, w32, of_z, rules, tests, eqb-true}
 use Rattle.std.specs.Option.{option_map}
 use Rattle.std.specs.List.{position_from}
 use Rattle.std.proofs.lemmas.Iterator.{YieldsList-from_slice}
@@ -36,4 +36,4 @@ pub returns-clause-value : goal.returns-clause-value
 returns-clause-value c =
     let xs = c.args.row.now.coefficients in
     let p = position_from_yields_List nonzero _ _ c.position.result c.position.ensures.ran (YieldsList-from_slice xs cc) (λ x b q k. search (rules, tests)) in
-    sym c.in_ok-place.was ∙ p ∙ position_from-zero nonzero xs ∙ position_is xs 0 c.args.row.now.within
+    ap Some (omega arith) ∙ sym c.in_ok-place.was ∙ p ∙ position_from-zero nonzero xs ∙ position_is xs 0 c.args.row.now.within
