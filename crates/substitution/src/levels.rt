@@ -49,7 +49,9 @@ pub fn complete_all(pivots: &[Pivot], below: &Preset) -> Result<Preset, Fault>
     ensures { level_verdict result ≡ all_completed (latest_first pivots.now []) below.now.numerators below.now.denominator }
 {
     let mut levels = *below;
-    for pivot in pivots.iter().rev() {
+    // kept: by places, since over `pivots.iter().rev()` another order is another iterator, and is refused as that, not for the levels
+    for i in (0..pivots.len()).rev() {
+        let pivot = pivots[i];
         levels = pivot
             .complete(&levels)
             .ok_or(Fault::new(Cause::NumberBeyond, pivot.fader.index))?;
