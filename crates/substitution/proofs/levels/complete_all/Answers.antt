@@ -29,6 +29,6 @@ returns-in_err-levels c =
     let z = failed c.complete.result c.new.result c.in_err-levels.field-0.0 c.in_err-levels.ensures.value in
     rw e.1
     (ap (λ (f : Fault). Verdict.fault f) (e.2 ∙ z ∙ c.new.ensures)
-      ∙ completed_none c.args.pivots.now c.loop-i.i (c.loop-i.i - 1) c.index-pivots-i.result (omega arith) (omega arith) c.index-pivots-i.is c.loop-i.levels.numerators c.loop-i.levels.denominator
-      (ap (option_map terms_of) (sym c.in_err-levels.ensures.ok_part) ∙ c.complete.ensures)
-      ∙ c.loop-i.invariant)
+    ∙ completed_none c.args.pivots.now c.loop-i.i (c.loop-i.i - 1) c.index-pivots-i.result (omega arith) (omega arith) c.index-pivots-i.is c.loop-i.levels.numerators c.loop-i.levels.denominator
+    (ap (option_map terms_of) (sym c.in_err-levels.ensures.ok_part) ∙ c.complete.ensures)
+    ∙ c.loop-i.invariant)
