@@ -19,6 +19,7 @@ pub fn first_equation(rows: &[Row]) -> Option<usize>
 }
 
 // The rows of the list fill the first places.
+#[tactic(auto, using(crate::proofs::Filled::filled_more))]
 fn fill(cells: &mut [Cell], rows: &[Row])
     requires { length rows.now ≤ length cells.old }
     ensures { lines (take (length rows.now) cells.new) ≡ carried 0 (constraints rows.now) }
